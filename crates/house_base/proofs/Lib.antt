@@ -1,0 +1,6 @@
+pub mod Cells
+pub mod Digits
+pub mod Distances
+pub mod Names
+pub mod Settings
+mod ThreePersons

@@ -1,0 +1,5 @@
+pub mod Answer
+pub mod Grid
+pub mod Name
+pub mod Number
+pub mod Setting

@@ -1,0 +1,4 @@
+mod Contents
+pub mod Counting
+mod Room
+pub mod Told

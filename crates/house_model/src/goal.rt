@@ -1,0 +1,6 @@
+/// What a command file is run for.
+#[derive(Clone, Copy, Debug, PartialEq, Eq)]
+pub enum Goal {
+    /// The report of the selection.
+    Run,
+}

@@ -1,0 +1,23 @@
+//! Laws of the register of a call.
+
+ghost use Rattle.std.specs.Prelude.{◌≡◌, ◌≢◌, ℕ, ◌<◌, ◌≤◌, All, IsTrue, length, slice_get};
+ghost use Rattle.house_base.specs.declared.limits.TheConstants.{MOST_SEATS, FEWEST_CLUSTERS, MOST_CLUSTERS, MOST_REVIEWS};
+ghost use Rattle.house_base.specs.Setting.{IsSetting};
+ghost use Rattle.house_model.specs.Register.{Register, IsRegister, all_placed, setting_of, people, place, entry};
+ghost use Rattle.house_model.specs.Text.{Text};
+
+/// A register makes a setting, once somebody applied and each person has its cluster.
+pub fn register_makes_setting()
+    ensures setting { (seats clusters reviews : ℕ) (reg : Register) → IsRegister reg → 1 ≤ length reg.applicants → IsTrue (all_placed reg)
+        → (1 ≤ seats) × (seats ≤ MOST_SEATS) → (FEWEST_CLUSTERS ≤ clusters) × (clusters ≤ MOST_CLUSTERS) → (1 ≤ reviews) × (reviews ≤ MOST_REVIEWS)
+        → All (λ p. (1 ≤ p.1) × (p.1 ≤ clusters)) reg.placed → IsSetting (setting_of seats clusters reviews reg) }
+    ensures people { (reg : Register) → length (people reg) ≡ length reg.applicants }
+{}
+
+/// Each applicant has a place of its own, at which it stands.
+pub fn applicants_have_places()
+    ensures below { (reg : Register) (i : ℕ) → i < length reg.applicants → place reg i < length reg.applicants }
+    ensures apart { (reg : Register) (i j : ℕ) → i < length reg.applicants → j < length reg.applicants → i ≢ j → place reg i ≢ place reg j }
+    ensures stands { (reg : Register) (i : ℕ) (a : Text × Text) → slice_get reg.applicants i ≡ Some a
+        → slice_get (people reg) (place reg i) ≡ Some (entry reg (i, a)) }
+{}

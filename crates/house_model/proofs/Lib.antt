@@ -5,15 +5,11 @@ pub mod DistanceLemmas
 pub mod GroupLemmas
 pub mod ImpartialLemmas
 pub mod InOrderLemmas
-pub mod LotterySameLemmas
 pub mod OrderLemmas
-pub mod PointsLemmas
-pub mod ProfileSameLemmas
 pub mod RegisterLemmas
 pub mod RegisterPeopleLemmas
 pub mod RegisterPlaceLemmas
 pub mod RegisterSettingLemmas
-pub mod ReportSameLemmas
 pub mod RowLemmas
 pub mod SameLemmas
 pub mod SeatLemmas

@@ -1,0 +1,92 @@
+use Rattle.std.proofs.Common.{◌≡◌, ℕ, suc, true, false, eqb, List, [], ◌∷◌, length, refl, sym, ap, ◌∙◌, inl, inr}
+use Rattle.std.specs.Prelude.{slice_get, slice_index, codes}
+use Rattle.std.specs.Option.{option_map_or}
+use Rattle.std.specs.Str.{bytes_eq}
+use Rattle.std.proofs.lemmas.Slice.Eq.{bytes_eq-Decides}
+use Rattle.std.proofs.lemmas.Bool.{eqb-true, or_cases, cases_Bool, true≢false}
+use Rattle.house_model.specs.declared.verb.Verb.{Verb}
+use Rattle.house_model.specs.declared.verb.Verb.TheVariants as verb
+use Rattle.house_model.specs.Text.{Text, words, word, is_blank, is_empty}
+use Rattle.house_model.specs.Verbs.{verb_of, verb_in, verb_number, commands, is_review, is_house}
+use Rattle.house_core.specs.Reading.{IsHouseLine, argument}
+use Rattle.house_core.proofs.LineLemmas.{verb_by_first}
+
+-- a comment's first word commands nothing
+verb_of_comment : (b : ℕ) (w : Text) → b ≡ 35 → verb_of (b ∷ w) ≡ verb.Other
+unfolding verb_of
+verb_of_comment b w h = rw h refl
+
+verb_of_marked : (w : Text) → eqb (slice_index w 0) 35 ≡ true → verb_of w ≡ verb.Other
+unfolding verb_of
+verb_of_marked [] h = refl
+verb_of_marked (b ∷ w) h = verb_of_comment b w (eqb-true b 35 h)
+
+no_first : (line : Text) → is_empty (words line) ≡ true → word line 0 ≡ []
+unfolding word
+no_first line h = none (words line) h where
+  none : (all : List Text) → is_empty all ≡ true → option_map_or (λ w. w) (slice_get all 0) [] ≡ []
+  none [] h = refl
+  none (x ∷ xs) h = cc
+
+is_no_review : (b : ℕ) (w : Text) → b ≡ 35 → bytes_eq (b ∷ w) (codes "review") ≡ false
+is_no_review b w h = rw h refl
+
+marked_no_review : (w : Text) → eqb (slice_index w 0) 35 ≡ true → bytes_eq w (codes "review") ≡ false
+marked_no_review [] h = refl
+marked_no_review (b ∷ w) h = is_no_review b w (eqb-true b 35 h)
+
+-- a blank line commands nothing
+pub blank_other : (line : Text) → is_blank line ≡ true → verb_in line ≡ verb.Other
+unfolding is_blank verb_in verb_of
+blank_other line h = elim (or_cases (is_empty (words line)) (eqb (slice_index (word line 0) 0) 35) h) [
+  | inl none ↦ ap verb_of (no_first line none)
+  | inr marked ↦ verb_of_marked (word line 0) marked
+]
+
+pub blank_not_review : (line : Text) → is_blank line ≡ true → is_review line ≡ false
+unfolding is_blank is_review
+blank_not_review line h = elim (or_cases (is_empty (words line)) (eqb (slice_index (word line 0) 0) 35) h) [
+  | inl none ↦ ap (λ w. bytes_eq w (codes "review")) (no_first line none)
+  | inr marked ↦ marked_no_review (word line 0) marked
+]
+
+-- nor does a review line
+pub review_other : (line : Text) → is_review line ≡ true → verb_in line ≡ verb.Other
+unfolding is_review verb_in verb_of
+review_other line h = ap verb_of ((bytes_eq-Decides (word line 0) (codes "review")).0 h)
+
+-- whether a line has a command, by what it has
+pub commands_is : (line : Text) (v w : Verb) → verb_in line ≡ v → commands w line ≡ eqb (verb_number v) (verb_number w)
+commands_is line v w h = ap (λ u. eqb (verb_number u) (verb_number w)) h
+
+not_other : (v : Verb) → eqb (verb_number v) 11 ≡ false → v ≡ verb.Other → ⊥
+not_other v other h = true≢false (sym (ap (λ u. eqb (verb_number u) 11) h) ∙ other)
+
+-- a line with a command is the house's
+pub house_by_verb : (line : Text) (v : Verb) → verb_in line ≡ v → eqb (verb_number v) 11 ≡ false → is_house line ≡ true
+unfolding is_house
+house_by_verb line v h other =
+    let blank : is_blank line ≡ false = elim (cases_Bool (is_blank line)) [
+      | inl is ↦ absurd (not_other v other (sym h ∙ blank_other line is))
+      | inr is_not ↦ is_not
+    ] in
+    let review : is_review line ≡ false = elim (cases_Bool (is_review line)) [
+      | inl is ↦ absurd (not_other v other (sym h ∙ review_other line is))
+      | inr is_not ↦ is_not
+    ] in
+    rw (blank, review) refl
+
+-- what a line of the house is
+pub line_is_house : (line : Text) (v : Verb) (args : List Text) → IsHouseLine line v args → is_house line ≡ true
+unfolding is_house
+line_is_house line v args h = rw (h.not_blank, h.not_review) refl
+
+pub line_verb : (line : Text) (v : Verb) (args : List Text) → IsHouseLine line v args → verb_in line ≡ v
+line_verb line v args h = verb_by_first line h.first args h.words ∙ h.verb
+
+pub line_word : (line : Text) (v : Verb) (args : List Text) (i : ℕ) → IsHouseLine line v args → word line (suc i) ≡ argument args i
+unfolding word
+line_word line v args i h = ap (λ all. option_map_or (λ w. w) (slice_get all (suc i)) []) h.words
+
+pub line_length : (line : Text) (v : Verb) (args : List Text) → IsHouseLine line v args → length (words line) ≡ suc (length args)
+line_length line v args h = ap (λ all. length all) h.words

@@ -1,0 +1,30 @@
+use house_base::{Memory, Reason, Took};
+
+/// What a line did to a run.
+#[derive(Clone, Copy, Debug, PartialEq, Eq)]
+pub enum Step {
+    /// The run goes on.
+    Going(Took),
+    /// The line, by its number from 1, is refused, and has ended the run.
+    Refused(u64, Reason),
+    /// Want of memory has ended the run.
+    Memory,
+}
+
+/// Why a run has no outcome.
+#[derive(Clone, Copy, Debug, PartialEq, Eq)]
+pub enum EndFault {
+    Refused(u64, Reason),
+    Memory,
+}
+
+impl From<Memory> for EndFault {
+    ghost use Rattle.std.specs.Prelude.{◌≡◌};
+    ghost use Rattle.house_core.specs.declared.step.EndFault.TheVariants as fault;
+
+    ghost from_gives = { λ _ e. e ≡ fault.Memory };
+
+    fn from(_: Memory) -> Self {
+        EndFault::Memory
+    }
+}

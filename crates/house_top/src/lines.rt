@@ -1,0 +1,60 @@
+//! The lines of a text, cut off one by one.
+
+ghost use Rattle.std.specs.Prelude.{◌≡◌, ◌<◌, [], ◌∷◌, length, IfSome, IfNone, position, All, false, ◌==◌};
+ghost use Rattle.house_model.specs.Heard.{is_over};
+ghost use Rattle.house_model.specs.Text.{lines, without_return};
+
+use house_model::limits::{MOST_BYTES, MOST_LINES};
+
+/// The first line of a text, without its line end, and the text behind it. None where the text is empty.
+pub fn first_line(text: &[u8]) -> Option<(&[u8], &[u8])>
+    ensures found { IfSome result (λ cut. lines text.now ≡ cut.0.now ∷ lines cut.1.now) }
+    ensures shorter { IfSome result (λ cut. length cut.1.now < length text.now) }
+    ensures none { IfNone result (lines text.now ≡ []) }
+{
+    if text.is_empty() {
+        return None;
+    }
+    match first_line_feed(text) {
+        Some(end) => {
+            let (line, after) = text.split_at(end);
+            Some((without_return(line), &after[1..]))
+        }
+        None => Some((without_return(text), &[])),
+    }
+}
+
+/// Where the first line feed stands.
+fn first_line_feed(text: &[u8]) -> Option<usize>
+    ensures value { result ≡ position (λ byte. byte == 10) text.now }
+    ensures none { IfNone result (All (λ byte. (byte == 10) ≡ false) text.now) }
+{
+    text.iter().position(|byte| *byte == b'\n')
+}
+
+/// A line without the carriage return that may end it.
+fn without_return(line: &[u8]) -> &[u8]
+    ensures { result.now ≡ without_return line.now }
+{
+    line.strip_suffix(b"\r").unwrap_or(line)
+}
+
+/// How many lines a text has.
+pub fn count_lines(text: &[u8]) -> usize
+    ensures { result ≡ length (lines text.now) }
+{
+    let mut rest = text;
+    let mut count = 0;
+    while let Some((_, after)) = first_line(rest) {
+        rest = after;
+        count += 1;
+    }
+    count
+}
+
+/// Whether a text is over the limits on its bytes or on its lines.
+pub fn is_over(text: &[u8]) -> bool
+    ensures { result ≡ is_over text.now }
+{
+    text.len() > MOST_BYTES || count_lines(text) > MOST_LINES
+}

@@ -1,0 +1,40 @@
+ghost use Rattle.std.specs.Prelude.{◌≡◌};
+ghost use Rattle.house_top.specs.Exit.{exit_of};
+
+use house_base::Reason;
+
+/// How a call ended.
+#[derive(Clone, Copy, Debug, PartialEq, Eq)]
+pub enum Status {
+    /// The report is written whole.
+    Done,
+    /// The words are of no form.
+    Usage,
+    /// The line of this number, counted from 1, is refused, or the end of the input is.
+    Refused(u64, Reason),
+    /// The input could not be read.
+    ReadFault,
+    /// The output could not be written.
+    WriteFault,
+    /// No memory was left.
+    Memory,
+    /// The input is over the limits on its bytes or on its lines.
+    TooLong,
+}
+
+impl Status {
+    /// The exit status of the program.
+    pub fn exit(self) -> u8
+        ensures { result ≡ exit_of self }
+    {
+        match self {
+            Status::Done => 0,
+            Status::Usage => 1,
+            Status::Refused(_, _) => 2,
+            Status::ReadFault => 4,
+            Status::WriteFault => 5,
+            Status::Memory => 6,
+            Status::TooLong => 8,
+        }
+    }
+}

@@ -3,6 +3,8 @@ use Rattle.std.specs.Prelude.{is_some, MatchOption, not, ◌||◌, ◌&&◌, if�
 use Rattle.std.proofs.lemmas.Bool.{true≢false, or_parts}
 use Rattle.house_base.specs.declared.call.Call.{Call}
 use Rattle.house_base.specs.declared.limits.TheConstants.{MOST_CLUSTERS}
+use Rattle.house_base.specs.declared.phase.Phase.{Phase}
+use Rattle.house_base.specs.declared.phase.Phase.TheVariants as phase
 use Rattle.house_base.specs.declared.answer.Reason.{Reason}
 use Rattle.house_base.specs.declared.answer.Reason.TheVariants as reason
 use Rattle.house_model.specs.declared.goal.Goal.TheVariants as goal
@@ -17,7 +19,7 @@ use Rattle.house_core.specs.declared.state.State.{State}
 use Rattle.house_core.specs.declared.state.Stop.{Stop}
 use Rattle.house_core.specs.declared.state.Stop.TheVariants as stop
 use Rattle.house_core.specs.Reading.{IsHouseLine}
-use Rattle.house_core.specs.Standing.{Says, admitted, is_call}
+use Rattle.house_core.specs.Standing.{Says, TakesMemory, admitted, is_call}
 use Rattle.house_core.proofs.RefusalLemmas.{lacks, is_wrong_turn, is_ill_formed, is_left, answer, house_refusal}
 
 -- What may come after the lines, by the state.
@@ -106,6 +108,38 @@ no_memory false false h = cc
 -- memory has no part in it
 pub admitted_no_memory : (s : State) (v : Verb) → admitted s v ≡ Err stop.Memory → ⊥
 admitted_no_memory s v h = no_memory (awaits v || not (is_some s.call || is_call v)) (allows s.phase v && not (is_call v && is_some s.call)) h
+
+turn_came : (late turn : Bool) → in_its_turn late turn ≡ Ok tt → turn ≡ true
+turn_came true turn h = cc
+turn_came false true h = refl
+turn_came false false h = cc
+
+-- a command that the other phases do not allow comes in the opening
+only_opening : (v : Verb) (p : Phase) (b : Bool) → allows phase.Reviewing v ≡ false → allows phase.Closed v ≡ false → allows phase.Drawn v ≡ false →
+    (allows p v && b) ≡ true → p ≡ phase.Opening
+only_opening v phase.Opening b r c d h = refl
+only_opening v phase.Reviewing b r c d h = absurd (true≢false (sym h ∙ rw r refl))
+only_opening v phase.Closed b r c d h = absurd (true≢false (sym h ∙ rw c refl))
+only_opening v phase.Drawn b r c d h = absurd (true≢false (sym h ∙ rw d refl))
+
+opens : (v : Verb) (p : Phase) (b : Bool) → TakesMemory v → (allows p v && b) ≡ true → p ≡ phase.Opening
+opens verb.Call p b t h = absurd t
+opens verb.Applicant p b t h = only_opening verb.Applicant p b refl refl refl h
+opens verb.Conflict p b t h = absurd t
+opens verb.Place p b t h = absurd t
+opens verb.Partition p b t h = absurd t
+opens verb.Pair p b t h = only_opening verb.Pair p b refl refl refl h
+opens verb.Seal p b t h = absurd t
+opens verb.Assign p b t h = only_opening verb.Assign p b refl refl refl h
+opens verb.Close p b t h = absurd t
+opens verb.Draw p b t h = absurd t
+opens verb.Lottery p b t h = absurd t
+opens verb.Other p b t h = absurd t
+
+-- a command that takes memory comes before the assignment
+pub memory_opens : (s : State) (v : Verb) → admitted s v ≡ Ok tt → TakesMemory v → s.phase ≡ phase.Opening
+memory_opens s v h t =
+    opens v s.phase (not (is_call v && is_some s.call)) t (turn_came (awaits v || not (is_some s.call || is_call v)) (allows s.phase v && not (is_call v && is_some s.call)) h)
 
 admits : (late turn : Bool) → judged late turn ≡ Ok tt → (late ≡ false) × (turn ≡ false)
 admits true turn h = cc

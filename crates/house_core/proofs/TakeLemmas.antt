@@ -6,6 +6,7 @@ use Rattle.house_base.specs.Name.{is_name}
 use Rattle.house_base.specs.Number.{number_up_to}
 use Rattle.house_base.specs.declared.answer.Reason.{Reason}
 use Rattle.house_base.specs.declared.answer.Reason.TheVariants as reason
+use Rattle.house_base.specs.declared.phase.Phase.TheVariants as phase
 use Rattle.house_model.specs.declared.goal.Goal.TheVariants as goal
 use Rattle.house_model.specs.declared.verb.Verb.{Verb}
 use Rattle.house_model.specs.Text.{Text, Lines}
@@ -23,7 +24,7 @@ use Rattle.house_core.specs.Reading.{Reads, IsHouseLine, IsRead, Carries, argume
 use Rattle.house_core.specs.Standing.{Says, Obeys, StopsAt, MayLack, TakesMemory, IsFormed, admitted, is_late, verb_of_command}
 use Rattle.house_core.proofs.NumberLemmas.{number_at_most, number_is}
 use Rattle.house_core.proofs.LineLemmas.{verb_by_first}
-use Rattle.house_core.proofs.AdmittedLemmas.{admitted_refuses}
+use Rattle.house_core.proofs.AdmittedLemmas.{admitted_refuses, memory_opens}
 use Rattle.house_core.proofs.LateLemmas.{ill_read_refused, late_refused}
 use Rattle.house_core.proofs.SaysLemmas.{obeyed_says}
 
@@ -113,9 +114,11 @@ module _ (lines : Lines) (s : State) (x : Text) where
       let late = stops_late c q obeys.0 in
       late_refused lines s x reads.0 reads.1 c says reads.2 reads.3 (rw (read_verb c reads.0 reads.1 reads.3.carries) at free) late.0 ∙ ap Some (sym late.1)
 
--- want of memory comes at a line whose command takes it
-pub house_lacks : (s : State) (x : Text) (c : Command) (new : State) → Reads x (kind.House c) → Obeys s c (Err stop.Memory) new → TakesMemory (verb_in x)
-house_lacks s x c new reads obeys =
+-- want of memory comes before the assignment, at a line whose command takes it
+pub house_lacks : (s : State) (x : Text) (c : Command) (new : State) → Reads x (kind.House c) → admitted s (verb_of_command c) ≡ Ok tt → Obeys s c (Err stop.Memory) new →
+    (s.phase ≡ phase.Opening) × TakesMemory (verb_in x)
+house_lacks s x c new reads free obeys =
     let same : verb_of_command c ≡ verb_in x =
     read_verb c reads.0 reads.1 reads.3.carries ∙ sym (verb_by_first x reads.2.first reads.1 reads.2.words ∙ reads.2.verb) in
-    rw same at (lacking_takes s c obeys.0)
+    let takes = lacking_takes s c obeys.0 in
+    (memory_opens s (verb_of_command c) free takes, rw same at takes)

@@ -1,13 +1,15 @@
-ghost use Rattle.std.specs.Prelude.{◌≡◌, ◌≢◌, ◌-◌, ◌^◌, ◌<◌, ◌⊎◌, [], ◌∷◌, ◌++◌, length, IfOk, IfErr, IfSome, Some};
+ghost use Rattle.std.specs.Prelude.{◌≡◌, ◌≢◌, ◌-◌, ◌^◌, ◌<◌, ◌⊎◌, [], ◌∷◌, ◌++◌, length, true, false, IfOk, IfErr, IfSome, MatchOption, Some};
 ghost use Rattle.house_model.specs.declared.goal.Goal.TheVariants as goal;
-ghost use Rattle.house_model.specs.Ending.{stop_of};
+ghost use Rattle.house_model.specs.declared.verb.Verb.TheVariants as verb;
+ghost use Rattle.house_model.specs.Ending.{in_force, stop_of};
 ghost use Rattle.house_model.specs.Text.{Lines};
 ghost use Rattle.house_model.specs.Transitional.{end_of, refusal};
 ghost use Rattle.house_model.specs.Verbs.{verb_in};
 ghost use Rattle.house_base.specs.Setting.{IsSetting};
 ghost use Rattle.house_model.specs.Ending.{is_drawn};
 ghost use Rattle.house_model.specs.Profile.{denominator};
-ghost use Rattle.house_model.specs.Reviews.{no_asides};
+ghost use Rattle.house_model.specs.Reviews.{asides_of, no_asides};
+ghost use Rattle.house_model.specs.Said.{has, phase_after, setting};
 ghost use Rattle.house_core.specs.Ends.{EndsAs, stopped_fault};
 ghost use Rattle.house_core.specs.House.{IsStep, StandsFor, stopped_step};
 ghost use Rattle.house_core.specs.Outcome.{desk_profile, outcome_of};
@@ -16,7 +18,7 @@ ghost use Rattle.house_core.specs.Standing.{IsFixed, TakesMemory};
 use crate::outcome::Outcome;
 use crate::state::{Round, State, Stop};
 use crate::step::{EndFault, Step};
-use house_base::{Asides, Memory, Phase, Reason, Took};
+use house_base::{Asides, Memory, Phase, Plan, Reason, Took};
 use house_model::Goal;
 use std::alloc::Global;
 use std::marker::Model;
@@ -66,8 +68,8 @@ impl House {
         // A run that has stopped answers the same and changes nothing.
         ensures stopped { IfSome self.old.stop (λ stop. (result ≡ stopped_step self.old.lines stop) × (self.new ≡ self.old)) }
 
-        // Only these lines take memory.
-        ensures memory { result ≡ Step.Memory → (self.old.stop ≡ Some Stop.Memory) ⊎ TakesMemory (verb_in line.now) }
+        // Only lines before the assignment take memory, and only these.
+        ensures memory { result ≡ Step.Memory → (self.old.stop ≡ Some Stop.Memory) ⊎ ((self.old.state.phase ≡ Phase.Opening) × TakesMemory (verb_in line.now)) }
     {
         if let Some(stop) = self.stop {
             return step_of(self.lines, stop);
@@ -88,6 +90,9 @@ impl House {
     pub fn end(&self) -> Result<Outcome, EndFault>
         ensures ends { (lines : Lines) → StandsFor goal.Run lines self.now → length lines < 2 ^ 64 - 1 → EndsAs (end_of goal.Run lines) lines result }
         ensures stopped { IfSome self.now.stop (λ stop. result ≡ Err (stopped_fault self.now.lines stop)) }
+
+        // Only an outcome takes memory.
+        ensures memory { result ≡ Err EndFault.Memory → (self.now.stop ≡ Some Stop.Memory) ⊎ (is_drawn self.now.state.phase ≡ true) }
     {
         if let Some(stop) = self.stop {
             return Err(fault_of(self.lines, stop));
@@ -106,9 +111,29 @@ impl House {
 
     /// How far the call has come.
     pub fn phase(&self) -> Phase
-        ensures { result ≡ self.now.state.phase }
+        ensures value { result ≡ self.now.state.phase }
+        ensures says { (lines : Lines) → StandsFor goal.Run lines self.now → result ≡ phase_after (in_force (refusal goal.Run) lines) }
     {
         self.state.phase
+    }
+
+    /// How many review lines were set aside. Each review line is refused for now.
+    pub fn asides(&self) -> Asides
+        ensures { (lines : Lines) → StandsFor goal.Run lines self.now → result ≡ asides_of (in_force (refusal goal.Run) lines) }
+    {
+        no_asides()
+    }
+
+    /// The setting, once it was fixed by `assign`.
+    pub fn plan(&self) -> Option<&Plan>
+        ensures { (lines : Lines) → StandsFor goal.Run lines self.now → MatchOption result
+            (has verb.Assign (in_force (refusal goal.Run) lines) ≡ false)
+            (λ plan. (has verb.Assign (in_force (refusal goal.Run) lines) ≡ true) × (plan.now ≡ setting (in_force (refusal goal.Run) lines))) }
+    {
+        match &self.state.round {
+            Some(round) => Some(&round.plan),
+            None => None,
+        }
     }
 }
 

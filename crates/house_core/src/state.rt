@@ -63,7 +63,7 @@ impl State {
         ensures state { IsState self.new }
         ensures ok { (lines : Lines) → Says lines self.old → OnOk result ((refusal goal.Run lines line.now ≡ None) × Says (lines ++ line.now ∷ []) self.new) }
         ensures refused { (lines : Lines) → Says lines self.old → (r : Reason) → result ≡ Err (Stop.Refused r) → refusal goal.Run lines line.now ≡ Some r }
-        ensures memory { result ≡ Err Stop.Memory → TakesMemory (verb_in line.now) }
+        ensures memory { result ≡ Err Stop.Memory → (self.old.phase ≡ Phase.Opening) × TakesMemory (verb_in line.now) }
         ensures err { OnErr result (self.new ≡ self.old) }
     {
         match read_line(line) {

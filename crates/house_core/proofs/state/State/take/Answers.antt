@@ -35,7 +35,8 @@ returns-in-Ok-admit-clause-refused c = λ lines says r e.
     house_refused lines _ _ c.in-House.command r _ c.in-House.ensures says (rw c.verb_of.ensures at (sym c.admit-in-House.ensures) ∙ c.in-Ok-admit.is) (rw e at c.obey.ensures.obeys)
 
 pub returns-in-Ok-admit-clause-memory : goal.returns-in-Ok-admit-clause-memory
-returns-in-Ok-admit-clause-memory c = λ e. house_lacks _ _ c.in-House.command _ c.in-House.ensures (rw e at c.obey.ensures.obeys)
+returns-in-Ok-admit-clause-memory c = λ e.
+    house_lacks _ _ c.in-House.command _ c.in-House.ensures (rw c.verb_of.ensures at (sym c.admit-in-House.ensures) ∙ c.in-Ok-admit.is) (rw e at c.obey.ensures.obeys)
 
 pub returns-in-Err-admit-clause-refused : goal.returns-in-Err-admit-clause-refused
 returns-in-Err-admit-clause-refused c = λ lines says r e.

@@ -3,4 +3,5 @@ pub mod Digits
 pub mod Distances
 pub mod Names
 pub mod Settings
+mod TableLemmas
 mod ThreePersons

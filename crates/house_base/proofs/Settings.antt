@@ -1,12 +1,12 @@
 -- What a setting says of its places and persons.
-use Rattle.std.proofs.Common.{◌≡◌, ◌≢◌, ℕ, zero, suc, ◌+◌, ◌*◌, ◌≤◌, ◌<◌, Bool, true, not, ◌&&◌, nat_eq, List, [], ◌∷◌, length, map, Some, None, refl, ap, sym, ◌∙◌, inl, inr, eq-eqb, arith, below_more}
+use Rattle.std.proofs.Common.{◌≡◌, ◌≢◌, ℕ, zero, suc, ◌⊎◌, ◌+◌, ◌*◌, ◌≤◌, ◌<◌, Bool, true, not, ◌&&◌, nat_eq, List, [], ◌∷◌, length, map, Some, None, refl, ap, sym, ◌∙◌, inl, inr, eq-eqb, arith, below_more}
 use Rattle.std.specs.List.{All, Contains, find, position_or_len, slice_get}
 use Rattle.std.specs.Option.{is_some, option_map}
 use Rattle.std.proofs.lemmas.List.{length-map}
 use Rattle.std.proofs.lemmas.List.Elements.{All-head, All-tail, All-contains}
 use Rattle.std.proofs.lemmas.Option.{slice_get-map, slice_get-get_or, slice_get_within, get_or_from_slice_get, same_Some}
 use Rattle.std.proofs.lemmas.List.Folds.{find_at}
-use Rattle.std.proofs.lemmas.Bool.{cases_Bool, eqb-true}
+use Rattle.std.proofs.lemmas.Bool.{cases_Bool, cases_lt, eqb-true}
 use Rattle.std.proofs.lemmas.Bool.Decides.{nat_tests}
 use Rattle.std.proofs.Math.Nat.{mul-le-mul}
 use Rattle.house_base.specs.declared.limits.TheConstants.{MOST_OWN, MOST_REVIEWS}
@@ -123,3 +123,57 @@ owner_from-first s owner setting contained =
     let first = eqb-true found.0.first owner.first found.2 in
     let same : found.0 ≡ owner = same_owner 0 s.owners (size s) found.0 owner owner.first setting.in_turn among contained (omega arith, omega arith) (omega arith, omega arith) in
     found.1 ∙ ap Some same
+
+-- persons in turn end at the last place or before it
+pub end-StandInTurn : (from : ℕ) (owners : List Owner) (n i : ℕ) (owner : Owner) → StandInTurn from owners n → slice_get owners i ≡ Some owner → (from ≤ owner.first) × (owner.first + owner.own ≤ n)
+end-StandInTurn from [] n i owner stand at = absurd (omega (arith, slice_get_within [] i owner at))
+end-StandInTurn from (first ∷ rest) n zero owner stand at =
+    let same : first ≡ owner = same_Some first owner at in
+    let after = StandInTurn-le (from + first.own) rest n stand.1 in
+    (omega (arith, stand.0, ap (λ o. o.first) same), omega (arith, stand.0, after, ap (λ o. o.first) same, ap (λ o. o.own) same))
+end-StandInTurn from (first ∷ rest) n (suc i) owner stand at =
+    let later = end-StandInTurn (from + first.own) rest n i owner stand.1 at in
+    (omega (arith, later.0), later.1)
+
+-- of two persons in turn the first ends where the second begins, or before it
+pub before-StandInTurn : (from : ℕ) (owners : List Owner) (n i j : ℕ) (a b : Owner) → StandInTurn from owners n → slice_get owners i ≡ Some a → slice_get owners j ≡ Some b → i < j → a.first + a.own ≤ b.first
+before-StandInTurn from [] n i j a b stand at_a at_b less = absurd (omega (arith, slice_get_within [] i a at_a))
+before-StandInTurn from (first ∷ rest) n i zero a b stand at_a at_b less = absurd (omega arith)
+before-StandInTurn from (first ∷ rest) n zero (suc j) a b stand at_a at_b less =
+    let same : first ≡ a = same_Some first a at_a in
+    let later = end-StandInTurn (from + first.own) rest n j b stand.1 at_b in
+    omega (arith, stand.0, later.0, ap (λ o. o.first) same, ap (λ o. o.own) same)
+before-StandInTurn from (first ∷ rest) n (suc i) (suc j) a b stand at_a at_b less =
+    before-StandInTurn (from + first.own) rest n i j a b stand.1 at_a at_b (omega arith)
+
+-- each place belongs to one of the persons in turn
+pub owned-StandInTurn : (from : ℕ) (owners : List Owner) (n place : ℕ) → StandInTurn from owners n → from ≤ place → place < n → (i : ℕ) × (owner : Owner) × (slice_get owners i ≡ Some owner) × IsOwned owner place
+owned-StandInTurn from [] n place stand behind before = absurd (omega (arith, stand))
+owned-StandInTurn from (first ∷ rest) n place stand behind before =
+    elim (cases_lt place (first.first + first.own)) [
+      | inl inside ↦ (0, first, refl, (omega (arith, stand.0), inside))
+      | inr after ↦ let later = owned-StandInTurn (from + first.own) rest n place stand.1 (omega (arith, stand.0)) before in (suc later.0, later.1, later.2, later.3)
+    ]
+
+-- a search that finds something finds what passes
+pub find_cases : {A : Type 0} (test : A → Bool) (xs : List A) → ((x : A) × (find test xs ≡ Some x) × (test x ≡ true)) ⊎ (find test xs ≡ None)
+find_cases test [] = inr refl
+find_cases test (y ∷ ys) =
+    elim (cases_Bool (test y)) [
+      | inl first ↦ inl (y, rw first refl, first)
+      | inr other ↦ rw other (find_cases test ys)
+    ]
+
+-- no person is found by a place that is not the first one of the person to whom it belongs
+pub owner_from-other : (s : Setting) (owner : Owner) (place : ℕ) → IsSetting s → Contains s.owners owner → IsOwned owner place → owner.first ≢ place → owner_from s place ≡ None
+unfolding owner_from
+owner_from-other s owner place setting contained owned other =
+    elim (find_cases (λ o. nat_eq o.first place) s.owners) [
+      | inl found ↦
+          let among = Contains-find (λ o. nat_eq o.first place) s.owners found.0 found.1 in
+          let first = eqb-true found.0.first place found.2 in
+          let own = All-contains (λ o. (1 ≤ o.own) × (o.own ≤ MOST_OWN)) s.owners found.0 setting.own among in
+          let same : found.0 ≡ owner = same_owner 0 s.owners (size s) found.0 owner place setting.in_turn among contained (omega arith, omega arith) owned in
+          absurd (other (ap (λ o. o.first) (sym same) ∙ first))
+      | inr none ↦ none
+    ]

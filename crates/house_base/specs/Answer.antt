@@ -7,8 +7,18 @@ use Rattle.house_base.specs.declared.answer.Reason.TheVariants as reason
 
 -- the word of a reason
 abbrev pub reason_word : Reason → List ℕ
+reason_word reason.NoCall = codes "no-call"
 reason_word reason.Order = codes "order"
 reason_word reason.Form = codes "form"
+reason_word reason.Name = codes "name"
+reason_word reason.Range = codes "range"
+reason_word reason.Known = codes "known"
+reason_word reason.Unknown = codes "unknown"
+reason_word reason.TooMany = codes "too-many"
+reason_word reason.Seal = codes "seal"
+reason_word reason.Few = codes "few"
+reason_word reason.Unplaced = codes "unplaced"
+reason_word reason.Invalid = codes "invalid"
 reason_word reason.Unfinished = codes "unfinished"
 reason_word reason.Later = codes "later"
 

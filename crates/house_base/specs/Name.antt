@@ -1,4 +1,4 @@
-use Rattle.std.specs.Prelude.{◌≡◌, ℕ, ◌-◌, ◌≤◌, Bool, IsTrue, List, ◌++◌, length, take, replicate, nat_le, ◌==◌, ◌&&◌, ◌||◌, slice_index}
+use Rattle.std.specs.Prelude.{ℕ, Bool, List, length, nat_le, ◌==◌, ◌&&◌, ◌||◌, slice_index}
 use Rattle.std.specs.List.{list_all}
 use Rattle.house_base.specs.declared.limits.TheConstants.{MOST_NAME_BYTES}
 
@@ -13,10 +13,3 @@ is_name_byte b = is_letter b || (nat_le 48 b && nat_le b 57) || b == 45
 -- a word of the form of a name: 1 to 24 such bytes, the first a letter
 unfoldable pub is_name : List ℕ → Bool
 is_name word = nat_le (length word) MOST_NAME_BYTES && is_letter (slice_index word 0) && list_all is_name_byte word
-
--- an array of bytes of which the first `len` spell a name and the rest are 0
-pub record IsPaddedName (bytes : List ℕ) (len : ℕ) : Type 0 where
-  pub short : len ≤ MOST_NAME_BYTES
-  pub full : length bytes ≡ MOST_NAME_BYTES
-  pub padded : bytes ≡ take len bytes ++ replicate (MOST_NAME_BYTES - len) 0
-  pub form : IsTrue (is_name (take len bytes))

@@ -1,13 +1,35 @@
+//! The answers that a line of a command file gets.
+
 ghost use Rattle.std.specs.Prelude.{◌≡◌};
 ghost use Rattle.house_base.specs.Answer.{counted, raised, reason_word};
 
-/// Why a line ends a run.
+/// Why a line ends a run, or its end does.
 #[derive(Clone, Copy, Debug, PartialEq, Eq)]
 pub enum Reason {
-    /// The command may not come in this phase, or not again.
+    /// No call was made yet.
+    NoCall,
+    /// The command may not come in this phase, not again, or not beside another.
     Order,
-    /// The line has no command, or not its number of words.
+    /// The line has no command, or not its number of words, or a seal that is no digest.
     Form,
+    /// A name or a seed is not of its form.
+    Name,
+    /// A number is not in its one decimal form, or not within its bounds.
+    Range,
+    /// The applicant, the person's place or the pair is on record already.
+    Known,
+    /// A name is no person's, or no applicant's.
+    Unknown,
+    /// There may be no more applicants, or no more of this person.
+    TooMany,
+    /// The draw does not keep to the seal.
+    Seal,
+    /// Nobody applied.
+    Few,
+    /// Some person is in no cluster.
+    Unplaced,
+    /// The pairs are no valid assignment.
+    Invalid,
     /// The input ends before a draw.
     Unfinished,
     /// What the line asks for cannot be done yet.
@@ -20,8 +42,18 @@ impl Reason {
         ensures { result.now ≡ reason_word self }
     {
         match self {
+            Reason::NoCall => "no-call",
             Reason::Order => "order",
             Reason::Form => "form",
+            Reason::Name => "name",
+            Reason::Range => "range",
+            Reason::Known => "known",
+            Reason::Unknown => "unknown",
+            Reason::TooMany => "too-many",
+            Reason::Seal => "seal",
+            Reason::Few => "few",
+            Reason::Unplaced => "unplaced",
+            Reason::Invalid => "invalid",
             Reason::Unfinished => "unfinished",
             Reason::Later => "later",
         }

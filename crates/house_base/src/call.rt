@@ -1,3 +1,5 @@
+//! What a call gives out.
+
 ghost use Rattle.std.specs.Prelude.{◌≤◌};
 ghost use Rattle.house_base.specs.declared.limits.TheConstants.{MOST_SEATS, FEWEST_CLUSTERS, MOST_CLUSTERS, MOST_REVIEWS};
 

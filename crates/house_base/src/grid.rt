@@ -1,4 +1,6 @@
-ghost use Rattle.std.specs.Prelude.{◌≡◌, ℕ, ◌*◌, replicate, ◌<◌, ◌≤◌, false, IfOk, ◌==◌, ◌&&◌, if◌then◌else◌};
+//! Squares of truth values.
+
+ghost use Rattle.std.specs.Prelude.{◌≡◌, ℕ, ◌*◌, length, replicate, ◌<◌, ◌≤◌, false, IfOk, ◌==◌, ◌&&◌, if◌then◌else◌};
 ghost use Rattle.house_base.specs.Grid.{cell};
 
 use crate::limits::MOST_APPLICANTS;
@@ -61,6 +63,7 @@ impl Grid {
         requires row_below { row < self.old.side }
         requires column_below { column < self.old.side }
         ensures side { self.new.side ≡ self.old.side }
+        ensures as_many { length self.new.cells ≡ length self.old.cells }
         ensures cells { (r c : ℕ) → r < self.old.side → c < self.old.side →
             cell self.new r c ≡ (if r == row && c == column then value else cell self.old r c) }
     {

@@ -1,5 +1,6 @@
-// The small types of a peer selection call: names, numbers, grids, the plan of a call, and the answers
-// that a line of a command file gets.
+//! The small types of a peer selection call: names, seeds, numbers, grids, the plan of a call, and the
+//! answers that a line of a command file gets.
+
 #![tactic(auto)]
 
 pub mod answer;
@@ -12,6 +13,9 @@ pub mod name;
 pub mod number;
 pub mod phase;
 pub mod plan;
+pub mod review;
+pub mod seed;
+pub mod tables;
 
 pub use answer::{Asides, Kind, Reason, Took};
 pub use call::Call;
@@ -21,6 +25,8 @@ pub use name::Name;
 pub use number::read_number;
 pub use phase::Phase;
 pub use plan::{Owner, Person, Plan};
+pub use review::ReviewLine;
+pub use seed::Seed;
 
 #[cfg(test)]
 mod tests;

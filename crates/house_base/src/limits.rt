@@ -21,5 +21,11 @@ pub const MOST_OWN: u32 = 5;
 /// The most bytes of a name.
 pub const MOST_NAME_BYTES: usize = 24;
 
+/// The most bytes of a seed.
+pub const MOST_SEED_BYTES: usize = 64;
+
+/// The most points that a review gives.
+pub const MOST_POINTS: u32 = 100;
+
 /// One dollar, which each person shares among the applicants that it reviews, in cents.
 pub const DOLLAR: u32 = 1_000_000;

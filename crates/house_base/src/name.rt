@@ -1,11 +1,16 @@
-ghost use Rattle.std.specs.Prelude.{◌≡◌, ◌↔◌, IsTrue, IsSome, IfSome, slice_index};
+//! The names of applicants and persons.
+
+ghost use Rattle.std.specs.Prelude.{◌≡◌, ◌↔◌, IsTrue, IsSome, IfSome, Some, slice_index, refl};
 ghost use Rattle.std.specs.List.{list_all};
 ghost use Rattle.std.specs.Str.{bytes_eq};
+ghost use Rattle.std.specs.Ordering.{nat_cmp};
+ghost use Rattle.std.specs.Cmp.Lexicographic.{slice_cmp, nat_list_cmp_total, texts_ties, texts_po};
 ghost use Rattle.std.specs.Cmp.Rules.{comparing};
 ghost use Rattle.std.proofs.Common.{rules};
 ghost use Rattle.house_base.specs.Name.{is_letter, is_name, is_name_byte};
 
 use crate::limits::MOST_NAME_BYTES;
+use std::cmp::Ordering;
 use std::fmt;
 use std::marker::Model;
 
@@ -19,13 +24,14 @@ pub struct Name {
 impl Model for Name {
     ghost use Rattle.std.specs.Prelude.{ℕ, ◌-◌, List, ◌++◌, length, take, replicate};
     ghost use Rattle.house_base.specs.declared.limits.TheConstants.{MOST_NAME_BYTES};
-    ghost use Rattle.house_base.specs.Name.{IsPaddedName};
+    ghost use Rattle.house_base.specs.Name.{is_name};
+    ghost use Rattle.house_base.specs.Padded.{IsPadded};
 
     ghost Value = { List ℕ };
 
     ghost view = { λ n. take n.len n.bytes };
 
-    ghost invariant = { λ n. IsPaddedName n.bytes n.len };
+    ghost invariant = { λ n. IsPadded MOST_NAME_BYTES is_name n.bytes n.len };
 
     ghost inverse = { λ text. record { bytes = text ++ replicate (MOST_NAME_BYTES - length text) 0; len = length text } };
 }
@@ -71,6 +77,31 @@ impl PartialEq for Name {
 
 impl Eq for Name {
     ghost laws = { Prim.search (comparing, rules) };
+}
+
+/// Names are ordered by their bytes.
+impl PartialOrd for Name {
+    ghost partial_cmp = { λ x y. Some (slice_cmp nat_cmp x y) };
+
+    ghost laws = { texts_po };
+
+    fn partial_cmp(&self, other: &Name) -> Option<Ordering> {
+        Some(self.cmp(other))
+    }
+}
+
+impl Ord for Name {
+    ghost cmp = { slice_cmp nat_cmp };
+
+    ghost total = { nat_list_cmp_total };
+
+    ghost matches_partial_cmp = { λ x y. refl };
+
+    ghost matches_eq = { texts_ties };
+
+    fn cmp(&self, other: &Name) -> Ordering {
+        self.bytes().cmp(other.bytes())
+    }
 }
 
 impl fmt::Debug for Name {

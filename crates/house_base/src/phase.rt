@@ -1,3 +1,5 @@
+//! The phases of a call.
+
 /// How far a call has come.
 #[derive(Clone, Copy, Debug, PartialEq, Eq)]
 pub enum Phase {

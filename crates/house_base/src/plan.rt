@@ -1,3 +1,5 @@
+//! The plan of a call: its applicants in place order, their persons, and who may review whom.
+
 ghost use Rattle.std.specs.Prelude.{◌≡◌, ℕ, ◌*◌, ◌<◌, ◌≤◌, length, map, Contains, IfSome, IfNone, slice_get};
 ghost use Rattle.house_base.specs.Setting.{IsSetting, IsOwned, setting_of, size, names_of, number_at, owner_from, need, may, distance};
 
@@ -5,6 +7,7 @@ use crate::call::Call;
 use crate::grid::Grid;
 use crate::limits::{MOST_OWN, MOST_REVIEWS};
 use crate::name::Name;
+use crate::tables::{Table, table_of_owners, table_of_places};
 use std::marker::Model;
 
 /// One applicant, with its cluster, counted from 1, and its register number, counted from 0.
@@ -33,16 +36,19 @@ pub struct Plan {
     people: Vec<Person>,
     owners: Vec<Owner>,
     barred: Grid,
+    place_of_number: Table,
+    owner_of_place: Table,
 }
 
 impl Model for Plan {
-    ghost use Rattle.house_base.specs.Setting.{Setting, IsSetting, setting_of};
+    ghost use Rattle.house_base.specs.Setting.{Setting, setting_of};
+    ghost use Rattle.house_base.specs.Tables.{IsPlan};
 
     ghost Value = { Setting };
 
     ghost view = { λ p. setting_of p.call p.people.items p.owners.items p.barred };
 
-    ghost invariant = { λ p. IsSetting (setting_of p.call p.people.items p.owners.items p.barred) };
+    ghost invariant = { λ p. IsPlan (setting_of p.call p.people.items p.owners.items p.barred) p.place_of_number p.owner_of_place };
 }
 
 impl Plan {
@@ -52,11 +58,15 @@ impl Plan {
         requires { IsSetting (setting_of call people.items owners.items barred) }
         ensures { result ≡ setting_of call people.items owners.items barred }
     {
+        let place_of_number = table_of_places(&people);
+        let owner_of_place = table_of_owners(&owners, people.len() as u32);
         Plan {
             call,
             people,
             owners,
             barred,
+            place_of_number,
+            owner_of_place,
         }
     }
 
@@ -91,12 +101,7 @@ impl Plan {
         ensures below { result < size self.now }
         ensures number { number_at self.now result ≡ number }
     {
-        for place in 0..self.count() {
-            if self.person(place).number == number {
-                return place;
-            }
-        }
-        unreachable!()
+        u32::from(self.place_of_number[number as usize])
     }
 
     /// Whether the person whose first place is the reviewer's may review the proposal.
@@ -153,13 +158,9 @@ impl Plan {
         requires { place < size self.now }
         ensures person { Contains self.now.owners result }
         ensures owned { IsOwned result place }
+        ensures setting { IsSetting self.now }
     {
-        for owner in &self.owners {
-            if place < owner.first + owner.own {
-                return *owner;
-            }
-        }
-        unreachable!()
+        self.owners[self.owner_of_place[place as usize] as usize]
     }
 
     /// The place of the person of this name. None where no person has it.
@@ -190,13 +191,15 @@ impl Plan {
     }
 
     /// The person whose first place this is.
-    #[tactic(auto, unfolding(crate::specs::Setting::owner_from))]
     fn owner_from(&self, place: u32) -> Option<Owner>
+        requires { place < size self.now }
         ensures { result ≡ owner_from self.now place }
     {
-        self.owners
-            .iter()
-            .copied()
-            .find(|owner| owner.first == place)
+        let owner = self.owner_at(place);
+        if owner.first == place {
+            Some(owner)
+        } else {
+            None
+        }
     }
 }

@@ -1,3 +1,5 @@
+//! Tests of the small types.
+
 ghost use Rattle.std.specs.Prelude.{◌≡◌, ◌<◌, IfOk};
 ghost use Rattle.house_base.specs.Setting.{size};
 

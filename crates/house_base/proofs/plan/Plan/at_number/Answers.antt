@@ -1,13 +1,17 @@
-use Rattle.std.proofs.Common.{◌∙◌, arith}
-use Rattle.house_base.proofs.Settings.{number_at-read, absent_more, not_viewed}
+use Rattle.std.proofs.Common.{subst}
+use Rattle.house_base.specs.Setting.{IsSetting}
+use Rattle.house_base.specs.Tables.{GivesPlaces}
+use Rattle.house_base.proofs.TableLemmas.{place-GivesPlaces}
 use Rattle.house_base.proofs.plan.Plan.at_number.Goals as goal
 
-pub returns-then-person-number-clause-number : goal.returns-then-person-number-clause-number
-returns-then-person-number-clause-number c = number_at-read _ _ _ c.person.ensures ∙ c.if-person-number.true
+pub returns-clause-below : goal.returns-clause-below
+returns-clause-below c =
+    let setting = subst IsSetting c.self.view_is c.self.invariant.setting in
+    let gives = subst (λ s. GivesPlaces s c.self.inside.place_of_number) c.self.view_is c.self.invariant.gives_places in
+    rw c.from.ensures ((place-GivesPlaces c.args.self.now c.self.inside.place_of_number c.args.number setting gives c.requires).0)
 
-pub loop-place-preserved : goal.loop-place-preserved
-loop-place-preserved c = absent_more (λ person. person.number) _ _ _ _ c.person.ensures c.if-person-number.false c.loop-place.invariant
-
-pub unreachable-requires : goal.unreachable-requires
-unreachable-requires c =
-    not_viewed (λ person. person.number) _ _ _ (omega arith) c.loop-place.invariant (c.count-place-end.ensures.setting.each_number _ c.requires)
+pub returns-clause-number : goal.returns-clause-number
+returns-clause-number c =
+    let setting = subst IsSetting c.self.view_is c.self.invariant.setting in
+    let gives = subst (λ s. GivesPlaces s c.self.inside.place_of_number) c.self.view_is c.self.invariant.gives_places in
+    rw c.from.ensures ((place-GivesPlaces c.args.self.now c.self.inside.place_of_number c.args.number setting gives c.requires).1)

@@ -1,0 +1,16 @@
+use Rattle.std.proofs.Common.{refl, sym, ◌∙◌}
+use Rattle.house_base.proofs.Names.{length-is_seed, length-take_front, IsPadded-written}
+use Rattle.house_base.proofs.seed.Seed.read.Goals as goal
+
+pub slice_bounds-bytes-end : goal.slice_bounds-bytes-end
+slice_bounds-bytes-end c = length-is_seed _ (sym c.is_seed.ensures ∙ c.if-not-is_seed.false)
+
+pub slice_bounds-copy_from_slice-end : goal.slice_bounds-copy_from_slice-end
+slice_bounds-copy_from_slice-end c = sym (length-take_front _ _ _ refl (length-is_seed _ (sym c.is_seed.ensures ∙ c.if-not-is_seed.false)))
+
+pub copy_from_slice-requires : goal.copy_from_slice-requires
+copy_from_slice-requires c = length-take_front _ _ _ refl (length-is_seed _ (sym c.is_seed.ensures ∙ c.if-not-is_seed.false))
+
+pub invariant_of-result : goal.invariant_of-result
+invariant_of-result c =
+    rw c.copy_from_slice.ensures.after (IsPadded-written _ _ _ _ refl (length-is_seed _ (sym c.is_seed.ensures ∙ c.if-not-is_seed.false)) (sym c.is_seed.ensures ∙ c.if-not-is_seed.false))

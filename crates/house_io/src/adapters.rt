@@ -1,5 +1,6 @@
-// A source and a sink over the standard library's readers and writers. As a source and a sink they tell no
-// content; their own clauses follow the bytes of a reader or a writer over memory, which are known.
+//! A source and a sink over the standard library's readers and writers. As a source and a sink they tell no
+//! content; their own clauses follow the bytes of a reader or a writer over memory, which are known.
+
 ghost use Rattle.std.specs.Prelude.{◌≡◌, ◌<◌, ◌≤◌, [], length, None, IfOk, is_ok, if◌then◌else◌};
 ghost use Rattle.std.specs.Io.KnownBytes.{ReadConsumes, WriteAppends};
 ghost use Rattle.house_io.specs.Faults.{next_count};

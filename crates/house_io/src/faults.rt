@@ -1,3 +1,5 @@
+//! Counts of faults.
+
 ghost use Rattle.std.specs.Prelude.{◌≡◌, ◌≤◌};
 ghost use Rattle.house_io.specs.Faults.{Rose, next_count};
 

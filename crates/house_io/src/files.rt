@@ -1,10 +1,13 @@
+//! Files that are loaded and stored whole.
+
 ghost use Rattle.std.specs.Prelude.{◌≡◌, ℕ, ◌≤◌, List, Option, None, Some, is_some, vec_len, IfOk, OnOk, OnErr, IfSome, MatchOption, IsErrOf};
 ghost use Rattle.std.specs.FinMap as map;
 ghost use Rattle.house_io.specs.Faults.{Rose};
 ghost use Rattle.house_io.specs.Files.{Contents, IsLonger, told_with, KeepsOthers, StaysReady};
 ghost use Rattle.house_io.specs.declared.files.LoadFault.TheVariants.{Failed as load_failed, Memory as no_memory};
 
-use crate::{Failed, Memory};
+use crate::Failed;
+use house_base::Memory;
 use std::alloc::{AllocError, Global};
 use std::error::Error;
 use std::fmt;

@@ -1,12 +1,12 @@
-// What a program reads from, writes to and keeps files in: traits that say what each call does, forms of
-// them in memory, and adapters over the real thing.
+//! What a program reads from, writes to and keeps files in: traits that say what each call does, forms of
+//! them in memory, and adapters over the real thing.
+
 #![tactic(auto)]
 
 pub mod adapters;
 pub mod faults;
 pub mod files;
 pub mod map_shelf;
-pub mod memory;
 pub mod plain;
 pub mod sink;
 pub mod source;
@@ -15,7 +15,6 @@ pub use adapters::{InputSource, OutputSink};
 pub use faults::Failed;
 pub use files::{Files, LoadFault, Shelf};
 pub use map_shelf::MapShelf;
-pub use memory::Memory;
 pub use plain::{PlainSink, PlainSource};
 pub use sink::Sink;
 pub use source::Source;

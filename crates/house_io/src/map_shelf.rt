@@ -1,4 +1,5 @@
-// Files in memory that fail by a script.
+//! Files in memory that fail by a script.
+
 ghost use Rattle.std.specs.Prelude.{◌≡◌, ◌↔◌, ◌≤◌, ◌⊎◌, None, Some, IsTrue, IfOk, OnOk, OnErr, IsErr, IsErrOf, vec_len, if◌then◌else◌};
 ghost use Rattle.std.specs.Option.{option_copied};
 ghost use Rattle.std.specs.FinMap as map;
@@ -7,7 +8,8 @@ ghost use Rattle.house_io.specs.ScriptedFiles.{no_files, with_file, IsNextCallFa
 ghost use Rattle.house_io.specs.Faults.{next_count};
 
 use crate::faults::next_count;
-use crate::{Failed, Files, LoadFault, Memory, Shelf};
+use crate::{Failed, Files, LoadFault, Shelf};
+use house_base::Memory;
 use std::alloc::Global;
 use std::collections::BTreeMap;
 use std::marker::Model;

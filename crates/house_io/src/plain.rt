@@ -1,9 +1,11 @@
-// A source and a sink in memory that never fail.
+//! A source and a sink in memory that never fail.
+
 ghost use Rattle.std.specs.Prelude.{◌≡◌, Ok, Some, IfOk, min, length};
 ghost use Rattle.house_io.specs.Collected.{nothing_collected, collected_with, told_bytes};
 ghost use Rattle.house_io.specs.Source.{Takes};
 
-use crate::{Failed, Memory, Sink, Source};
+use crate::{Failed, Sink, Source};
+use house_base::Memory;
 use std::alloc::Global;
 use std::marker::Model;
 

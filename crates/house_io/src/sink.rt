@@ -1,3 +1,5 @@
+//! Where output goes.
+
 ghost use Rattle.std.specs.Prelude.{ℕ, ◌<◌, ◌≤◌, List, Option, length, take, IfOk, OnErr};
 ghost use Rattle.house_io.specs.Faults.{Rose};
 ghost use Rattle.house_io.specs.Sink.{AppendsWhereTold, SameWhereTold};

@@ -6,7 +6,7 @@ use Rattle.house_base.specs.declared.plan.Person.{Person}
 use Rattle.house_base.specs.declared.plan.Owner.{Owner}
 use Rattle.house_base.specs.Setting.{Setting, IsSetting, IsOwned, StandInTurn, cluster_at, number_at}
 use Rattle.house_model.specs.Text.{Text}
-use Rattle.house_model.specs.Register.{Register, IsRegister, persons, own_count, own_people, people, owners, owners_from, entry, cluster_of, all_placed, square_of, open_setting, setting_of}
+use Rattle.house_model.specs.Register.{Register, IsRegister, persons, own_count, own_people, people, owners, owners_from, entry, cluster_of, all_placed, square_of, open_setting, registered_setting}
 use Rattle.house_model.proofs.InOrderLemmas.{In, InOrder, map-In, In-get_or, In-Contains, All-from_In, All-In, AllPairs-from_InOrder, InOrder-filter, InOrder-map}
 use Rattle.house_model.proofs.GroupLemmas.{In-group}
 use Rattle.house_model.proofs.RegisterPeopleLemmas.{person_in, numbered, own_entries, entries, map-map, people-entries, entries-In, length-people, Apart-persons, Apart-names, Apart-numbers, number_below, number_among, length-own_people, own_count-some, cluster_of-placed, person_among, InOrder-enumerate_from}
@@ -60,7 +60,7 @@ in_turn reg first (p ∷ ps) n e = (
 )
 
 -- what stands at a person's places: its own people
-own_place : {Y : Type 0} (f : Person → Y) (d : Y) (reg : Register) (first : ℕ) (ps : List Text) (front : List Person) (owner : Owner) (place : ℕ)
+pub own_place : {Y : Type 0} (f : Person → Y) (d : Y) (reg : Register) (first : ℕ) (ps : List Text) (front : List Person) (owner : Owner) (place : ℕ)
     → length front ≡ first → In owner (owners_from reg first ps) → IsOwned owner place
     → (k : ℕ) × (place ≡ owner.first + k) × (k < length (own_people reg owner.name)) × (get_or (map f (front ++ flat_map (own_people reg) ps)) place d ≡ get_or (map f (own_people reg owner.name)) k d)
 own_place f d reg first [] front owner place whole m owned = absurd m
@@ -153,10 +153,10 @@ module _ (seats clusters reviews : ℕ) (reg : Register) (h : MakesSetting seats
   unfolding people
   people_in_turn = in_turn reg 0 (persons reg) (length (flat_map (own_people reg) (persons reg))) (omega arith)
 
-  pub IsSetting-setting_of : IsSetting (setting_of seats clusters reviews reg)
-  unfolding setting_of open_setting owners square_of
-  IsSetting-setting_of =
-      let s = setting_of seats clusters reviews reg in
+  pub IsSetting-registered_setting : IsSetting (registered_setting seats clusters reviews reg)
+  unfolding registered_setting open_setting owners square_of
+  IsSetting-registered_setting =
+      let s = registered_setting seats clusters reviews reg in
       let whole = length-people reg in
       record {
         seats_in_range = h.seats_in_range;

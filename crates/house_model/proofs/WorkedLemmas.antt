@@ -1,17 +1,16 @@
-use Rattle.std.proofs.Common.{◌≡◌, ℕ, ◌+◌, ◌-◌, ◌<◌, ◌≤◌, ◌≢◌, Bool, true, ◌&&◌, ◌||◌, not, ltb, leb, eqb, List, [], ◌∷◌, map, get_or, refl, sym, ap, ◌∙◌, arith}
-use Rattle.std.specs.List.{AllByRecursion, AllPairs, list_all}
+use Rattle.std.proofs.Common.{◌≡◌, ℕ, ◌+◌, ◌-◌, ◌<◌, ◌≤◌, ◌≢◌, Bool, true, ◌&&◌, ◌||◌, not, ltb, leb, eqb, List, [], ◌∷◌, map, refl, sym, ap, ◌∙◌, arith}
+use Rattle.std.specs.List.{AllByRecursion, AllPairs, list_all, list_any}
 use Rattle.std.specs.Str.{bytes_eq}
 use Rattle.std.specs.Cmp.Lexicographic.{bytes_decides}
 use Rattle.std.proofs.lemmas.Bool.{and_parts, not-true, both_ways, eqb-true, eq-eqb, lt-ltb, leb-true, ltb-true}
-use Rattle.std.proofs.lemmas.List.{length-map}
 use Rattle.std.proofs.lemmas.List.Elements.{All-from_recursion}
 use Rattle.std.proofs.lemmas.List.Kept.{AllPairs-cons}
+use Rattle.std.proofs.lemmas.Map.Views.{Contains-from_any}
 use Rattle.house_base.specs.declared.limits.TheConstants.{MOST_APPLICANTS, MOST_SEATS, FEWEST_CLUSTERS, MOST_CLUSTERS, MOST_REVIEWS, MOST_OWN}
 use Rattle.house_base.specs.declared.plan.Owner.{Owner}
-use Rattle.house_base.specs.declared.plan.Person.{Person}
 use Rattle.house_base.specs.Setting.{Setting, IsSetting, IsOwned, StandInTurn, size, names_of, numbers_of, cluster_at, number_at}
 use Rattle.house_model.specs.Counting.{all_below}
-use Rattle.house_model.specs.Worked.{five_applicants, four_applicants}
+use Rattle.house_model.specs.Worked.{five_applicants, three_persons}
 use Rattle.house_model.proofs.CountingLemmas.{all_below-each}
 
 -- A setting by tests, so that a worked one computes.
@@ -22,7 +21,7 @@ All-by_test test P tells [] h = tt
 All-by_test test P tells (x ∷ xs) h = let both = and_parts (test x) (list_all test xs) h in (tells x both.0, All-by_test test P tells xs both.1)
 
 -- whether each pair passes
-abbrev pairs_pass : {X : Type 0} → (X → X → Bool) → List X → Bool
+abbrev pub pairs_pass : {X : Type 0} → (X → X → Bool) → List X → Bool
 pairs_pass test [] = true
 pairs_pass test (x ∷ xs) = list_all (test x) xs && pairs_pass test xs
 
@@ -49,10 +48,10 @@ own_by_test test owner place h owned =
     ap (test owner.first) (sym at) ∙ all_below-each (λ i. test owner.first (owner.first + i)) owner.own h (place - owner.first) (omega (arith, owned.0, owned.1))
 
 module _ (s : Setting) where
-  in_one_cluster : Owner → Bool
+  unfoldable pub in_one_cluster : Owner → Bool
   in_one_cluster owner = all_below (λ i. eqb (cluster_at s (owner.first + i)) (cluster_at s owner.first)) owner.own
 
-  in_rising_number : Owner → Bool
+  unfoldable pub in_rising_number : Owner → Bool
   in_rising_number owner = all_below (λ i. not (ltb (owner.first + i + 1) (owner.first + owner.own)) || ltb (number_at s (owner.first + i)) (number_at s (owner.first + i + 1))) owner.own
 
   one_cluster_by_test : (owner : Owner) → in_one_cluster owner ≡ true → (place : ℕ) → IsOwned owner place → cluster_at s place ≡ cluster_at s owner.first
@@ -68,13 +67,13 @@ module _ (s : Setting) where
       ltb-true (number_at s place) (number_at s (place + 1)) (sym (ap (λ b. not b || ltb (number_at s place) (number_at s (place + 1))) more) ∙ passes)
 
   -- a setting of which all tests compute to true
-  IsSetting-by_tests : ((1 ≤ s.seats) × (s.seats ≤ MOST_SEATS)) → ((FEWEST_CLUSTERS ≤ s.clusters) × (s.clusters ≤ MOST_CLUSTERS)) → ((1 ≤ s.reviews) × (s.reviews ≤ MOST_REVIEWS))
+  pub IsSetting-by_tests : ((1 ≤ s.seats) × (s.seats ≤ MOST_SEATS)) → ((FEWEST_CLUSTERS ≤ s.clusters) × (s.clusters ≤ MOST_CLUSTERS)) → ((1 ≤ s.reviews) × (s.reviews ≤ MOST_REVIEWS))
       → 1 ≤ size s → size s ≤ MOST_APPLICANTS
       → pairs_pass (λ a b. not (bytes_eq a b)) (names_of s) ≡ true
       → list_all (λ person. leb 1 person.cluster && leb person.cluster s.clusters) s.people ≡ true
       → pairs_pass (λ a b. not (eqb a b)) (numbers_of s) ≡ true
       → list_all (λ number. ltb number (size s)) (numbers_of s) ≡ true
-      → all_below (λ number. eqb (get_or (numbers_of s) number number) number) (size s) ≡ true
+      → all_below (λ number. list_any (eqb number) (numbers_of s)) (size s) ≡ true
       → s.barred.side ≡ size s
       → pairs_pass (λ a b. not (bytes_eq a b)) (map (λ owner. owner.name) s.owners) ≡ true
       → list_all (λ owner. leb 1 owner.own && leb owner.own MOST_OWN) s.owners ≡ true
@@ -93,7 +92,7 @@ module _ (s : Setting) where
         (All-by_test (λ person. leb 1 person.cluster && leb person.cluster s.clusters) (λ person. (1 ≤ person.cluster) × (person.cluster ≤ s.clusters)) (λ person. between person.cluster 1 s.clusters) s.people placed);
     numbers_differ = AllPairs-by_test (λ a b. not (eqb a b)) (λ a b. a ≢ b) numbers_differ (numbers_of s) numbers;
     numbers_below = All-from_recursion (λ number. number < size s) (numbers_of s) (All-by_test (λ number. ltb number (size s)) (λ number. number < size s) (λ number. ltb-true number (size s)) (numbers_of s) below);
-    each_number = λ number l. (number, omega (arith, length-map s.people (λ (person : Person). person.number)), eqb-true (get_or (numbers_of s) number number) number (all_below-each (λ number. eqb (get_or (numbers_of s) number number) number) (size s) each number l));
+    each_number = λ number l. Contains-from_any eqb-true number (numbers_of s) (all_below-each (λ number. list_any (eqb number) (numbers_of s)) (size s) each number l);
     square = square;
     owners_differ = AllPairs-by_test (λ a b. not (bytes_eq a b)) (λ a b. a ≢ b) texts_differ (map (λ owner. owner.name) s.owners) owners;
     own = All-from_recursion (λ owner. (1 ≤ owner.own) × (owner.own ≤ MOST_OWN)) s.owners
@@ -110,7 +109,7 @@ unfolding five_applicants cluster_at number_at all_below in_one_cluster in_risin
 five-setting = IsSetting-by_tests five_applicants (omega arith, omega arith) (omega arith, omega arith) (omega arith, omega arith) (omega arith) (omega arith)
     refl refl refl refl refl refl refl refl (refl, (refl, (refl, (refl, (refl, refl))))) refl refl
 
-pub four-setting : IsSetting four_applicants
-unfolding four_applicants cluster_at number_at all_below in_one_cluster in_rising_number
-four-setting = IsSetting-by_tests four_applicants (omega arith, omega arith) (omega arith, omega arith) (omega arith, omega arith) (omega arith) (omega arith)
+pub four-setting : IsSetting three_persons
+unfolding three_persons cluster_at number_at all_below in_one_cluster in_rising_number
+four-setting = IsSetting-by_tests three_persons (omega arith, omega arith) (omega arith, omega arith) (omega arith, omega arith) (omega arith) (omega arith)
     refl refl refl refl refl refl refl refl (refl, (refl, (refl, refl))) refl refl

@@ -1,5 +1,7 @@
 use Rattle.std.specs.Prelude.{ℕ, ◌+◌, Bool, Option, Some, None, [], ◌∷◌, ◌++◌, length, is_some, if◌then◌else◌, not}
 use Rattle.std.specs.Option.{option_map_or}
+use Rattle.house_base.specs.declared.answer.Reason.{Reason}
+use Rattle.house_base.specs.declared.answer.Reason.TheVariants as reason
 use Rattle.house_base.specs.declared.phase.Phase.{Phase}
 use Rattle.house_base.specs.declared.phase.Phase.TheVariants as phase
 use Rattle.house_model.specs.declared.verb.Verb.TheVariants as verb
@@ -8,33 +10,33 @@ use Rattle.house_model.specs.Said.{has, phase_after}
 
 -- How a list of lines ends, for a rule that says for which reason, if any, a line is refused after the lines
 -- before it.
-abbrev pub Rule : Type 0 → Type 0
-Rule R = Lines → Text → Option R
+abbrev pub Rule : Type 0
+Rule = Lines → Text → Option Reason
 
 -- the number, counted from 1, and the reason of the first line that is refused, where these lines come after
 -- those before
-abbrev pub stop_after : {R : Type 0} → Rule R → Lines → Lines → Option (ℕ × R)
+abbrev pub stop_after : Rule → Lines → Lines → Option (ℕ × Reason)
 stop_after rule before [] = None
 stop_after rule before (line ∷ lines) =
-    option_map_or (λ reason. Some (length before + 1, reason)) (rule before line) (stop_after rule (before ++ line ∷ []) lines)
+    option_map_or (λ r. Some (length before + 1, r)) (rule before line) (stop_after rule (before ++ line ∷ []) lines)
 
 -- the stop of a list of lines
-unfoldable pub stop_of : {R : Type 0} → Rule R → Lines → Option (ℕ × R)
+unfoldable pub stop_of : Rule → Lines → Option (ℕ × Reason)
 stop_of rule lines = stop_after rule [] lines
 
 -- the lines before the stop, or all where there is none
-abbrev pub in_force_after : {R : Type 0} → Rule R → Lines → Lines → Lines
+abbrev pub in_force_after : Rule → Lines → Lines → Lines
 in_force_after rule before [] = []
 in_force_after rule before (line ∷ lines) =
     if is_some (rule before line) then [] else line ∷ in_force_after rule (before ++ line ∷ []) lines
 
-unfoldable pub in_force : {R : Type 0} → Rule R → Lines → Lines
+unfoldable pub in_force : Rule → Lines → Lines
 in_force rule lines = in_force_after rule [] lines
 
 -- how a list of lines ends
-pub data Ended (R : Type 0) : Type 0 where
-  Done : Ended R
-  Refused : ℕ → R → Ended R
+pub data Ended : Type 0 where
+  Done : Ended
+  Refused : ℕ → Reason → Ended
 
 -- whether the lottery was drawn
 abbrev pub is_drawn : Phase → Bool
@@ -42,12 +44,11 @@ is_drawn phase.Drawn = Bool.true
 is_drawn p = Bool.false
 
 -- how a list of lines without a stop ends: behind its last line it lacks a call or a draw, or it is done
-unfoldable pub last_ended : {R : Type 0} → R → R → Lines → Ended R
-last_ended no_call unfinished lines =
-    if not (has verb.Call lines) then Ended.Refused (length lines + 1) no_call
-    else if not (is_drawn (phase_after lines)) then Ended.Refused (length lines + 1) unfinished
+unfoldable pub last_ended : Lines → Ended
+last_ended lines =
+    if not (has verb.Call lines) then Ended.Refused (length lines + 1) reason.NoCall
+    else if not (is_drawn (phase_after lines)) then Ended.Refused (length lines + 1) reason.Unfinished
     else Ended.Done
 
-unfoldable pub ended : {R : Type 0} → Rule R → R → R → Lines → Ended R
-ended rule no_call unfinished lines =
-    option_map_or (λ s. Ended.Refused s.0 s.1) (stop_of rule lines) (last_ended no_call unfinished lines)
+unfoldable pub ended : Rule → Lines → Ended
+ended rule lines = option_map_or (λ s. Ended.Refused s.0 s.1) (stop_of rule lines) (last_ended lines)

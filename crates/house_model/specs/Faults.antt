@@ -3,6 +3,9 @@ use Rattle.std.specs.List.{list_all}
 use Rattle.std.specs.Option.{option_map_or}
 use Rattle.house_base.specs.Name.{is_name}
 use Rattle.house_base.specs.Number.{number_up_to}
+use Rattle.house_base.specs.Seed.{is_seed}
+use Rattle.house_base.specs.declared.answer.Reason.{Reason}
+use Rattle.house_base.specs.declared.answer.Reason.TheVariants as reason
 use Rattle.house_base.specs.declared.limits.TheConstants.{MOST_APPLICANTS, MOST_SEATS, FEWEST_CLUSTERS, MOST_CLUSTERS, MOST_REVIEWS, MOST_OWN}
 use Rattle.house_model.specs.declared.goal.Goal.{Goal}
 use Rattle.house_model.specs.declared.goal.Goal.TheVariants as goal
@@ -10,23 +13,11 @@ use Rattle.house_model.specs.declared.verb.Verb.{Verb}
 use Rattle.house_model.specs.declared.verb.Verb.TheVariants as verb
 use Rattle.house_model.specs.Profile.{is_valid}
 use Rattle.house_model.specs.Text.{Text, Lines, words, word}
-use Rattle.house_model.specs.Verbs.{verb_in, commands, is_house, has_count, allows, is_seed, is_hex64}
+use Rattle.house_model.specs.Verbs.{verb_in, commands, is_house, has_count, allows, is_hex64}
 use Rattle.house_model.specs.Register.{Register, names, persons, own_count, placed_names, among, pair_among, all_placed}
 use Rattle.house_model.specs.Said.{has, phase_after, clusters_of, applicant_in, register, denominator_of, setting, assigned}
 
 -- Why a line of the house may not come after the lines before it.
-pub data Fault : Type 0 where
-  NoCall : Fault
-  Order : Fault
-  Form : Fault
-  Name : Fault
-  Range : Fault
-  Known : Fault
-  Unknown : Fault
-  TooMany : Fault
-  Few : Fault
-  Unplaced : Fault
-  Invalid : Fault
 
 -- no call was made, and the line makes none
 unfoldable pub lacks_call : Lines → Text → Bool
@@ -112,30 +103,30 @@ looks_at_pairs goal.Run = true
 
 -- a hand-made assignment that is not valid
 abbrev pub is_invalid : Goal → Lines → Verb → Bool
-is_invalid g before verb.Assign = looks_at_pairs g && nat_lt 0 (length (register before).pairs) && not (is_valid (setting before) (assigned before))
+is_invalid g before verb.Assign = looks_at_pairs g && nat_lt 0 (length (register before).pairs) && not (is_valid (setting before) (assigned g before))
 is_invalid g before v = false
 
--- the first of these faults whose test holds
-abbrev pub first_of_faults : List (Fault × Bool) → Option Fault
-first_of_faults [] = None
-first_of_faults (f ∷ fs) = if f.1 then Some f.0 else first_of_faults fs
+-- the first of these reasons whose test holds
+abbrev pub first_of_reasons : List (Reason × Bool) → Option Reason
+first_of_reasons [] = None
+first_of_reasons (r ∷ rs) = if r.1 then Some r.0 else first_of_reasons rs
 
--- the fault of a line of the house after the lines before it: the first that fits
-unfoldable pub house_fault : Goal → Lines → Text → Option Fault
-house_fault g before line = first_of_faults (
-    (Fault.NoCall, lacks_call before line)
-    ∷ (Fault.Order, out_of_order before line)
-    ∷ (Fault.Form, ill_formed line)
-    ∷ (Fault.Name, not (names_are_formed (verb_in line) line))
-    ∷ (Fault.Range, not (numbers_are_in_range before (verb_in line) line))
-    ∷ (Fault.Known, is_known (register before) (verb_in line) line)
-    ∷ (Fault.Unknown, is_unknown (register before) (verb_in line) line)
-    ∷ (Fault.TooMany, is_too_many (register before) (verb_in line) line)
-    ∷ (Fault.Few, is_few (register before) (verb_in line))
-    ∷ (Fault.Unplaced, is_unplaced before (verb_in line))
-    ∷ (Fault.Invalid, is_invalid g before (verb_in line))
+-- the fault of a line of the house after the lines before it: the first reason that fits
+unfoldable pub house_fault : Goal → Lines → Text → Option Reason
+house_fault g before line = first_of_reasons (
+    (reason.NoCall, lacks_call before line)
+    ∷ (reason.Order, out_of_order before line)
+    ∷ (reason.Form, ill_formed line)
+    ∷ (reason.Name, not (names_are_formed (verb_in line) line))
+    ∷ (reason.Range, not (numbers_are_in_range before (verb_in line) line))
+    ∷ (reason.Known, is_known (register before) (verb_in line) line)
+    ∷ (reason.Unknown, is_unknown (register before) (verb_in line) line)
+    ∷ (reason.TooMany, is_too_many (register before) (verb_in line) line)
+    ∷ (reason.Few, is_few (register before) (verb_in line))
+    ∷ (reason.Unplaced, is_unplaced before (verb_in line))
+    ∷ (reason.Invalid, is_invalid g before (verb_in line))
     ∷ [])
 
 -- the fault of any line: blank lines and review lines have none
-unfoldable pub fault : Goal → Lines → Text → Option Fault
+unfoldable pub fault : Goal → Lines → Text → Option Reason
 fault g before line = if is_house line then house_fault g before line else None

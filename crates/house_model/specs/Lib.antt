@@ -1,10 +1,14 @@
 pub mod Counting
 pub mod Split
 pub mod Profile
+pub mod Shortage
 pub mod Lottery
+pub mod Marks
+pub mod Naming
 pub mod Report
 pub mod Text
 pub mod Verbs
+pub mod Commands
 pub mod Register
 pub mod Said
 pub mod Faults
@@ -15,4 +19,7 @@ pub mod Heard
 pub mod Due
 pub mod Examples
 pub mod Laws
+pub mod Isolation
+pub mod Interleaving
+pub mod Headline
 pub mod Worked

@@ -117,8 +117,8 @@ open_setting seats clusters reviews reg = record {
 }
 
 -- the setting of a register
-unfoldable pub setting_of : ℕ → ℕ → ℕ → Register → Setting
-setting_of seats clusters reviews reg = record (open_setting seats clusters reviews reg) {
+unfoldable pub registered_setting : ℕ → ℕ → ℕ → Register → Setting
+registered_setting seats clusters reviews reg = record (open_setting seats clusters reviews reg) {
   barred = square_of (length reg.applicants) (name_pair reg.barred (open_setting seats clusters reviews reg));
 }
 

@@ -6,12 +6,13 @@ use Rattle.house_base.specs.Setting.{Setting}
 use Rattle.house_base.specs.declared.limits.TheConstants.{DOLLAR}
 use Rattle.house_base.specs.declared.phase.Phase.{Phase}
 use Rattle.house_base.specs.declared.phase.Phase.TheVariants as phase
+use Rattle.house_model.specs.declared.goal.Goal.{Goal}
 use Rattle.house_model.specs.declared.verb.Verb.{Verb}
 use Rattle.house_model.specs.declared.verb.Verb.TheVariants as verb
 use Rattle.house_model.specs.Profile.{Pairs}
 use Rattle.house_model.specs.Text.{Text, Lines, words, word}
 use Rattle.house_model.specs.Verbs.{commands}
-use Rattle.house_model.specs.Register.{Register, persons, setting_of, name_pair}
+use Rattle.house_model.specs.Register.{Register, persons, registered_setting, name_pair}
 
 -- What the lines of a command file say. Each part is read off the lines with one command.
 
@@ -80,8 +81,8 @@ draw_of lines = option_map_or (λ line. number (word line 1)) (find (commands ve
 
 -- the setting that the lines give
 unfoldable pub setting : Lines → Setting
-setting lines = setting_of (seats_of lines) (clusters_of lines) (reviews_of lines) (register lines)
+setting lines = registered_setting (seats_of lines) (clusters_of lines) (reviews_of lines) (register lines)
 
--- the hand-made assignment, by places
-unfoldable pub assigned : Lines → Pairs
-assigned lines = name_pair (register lines).pairs (setting lines)
+-- the assignment that the lines give for a goal, by places: the pairs that they name
+unfoldable pub assigned : Goal → Lines → Pairs
+assigned g lines = name_pair (register lines).pairs (setting lines)

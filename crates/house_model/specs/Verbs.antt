@@ -1,7 +1,6 @@
-use Rattle.std.specs.Prelude.{ℕ, Bool, true, false, length, codes, ◌==◌, ◌&&◌, ◌||◌, nat_le, nat_lt, not, if◌then◌else◌}
+use Rattle.std.specs.Prelude.{ℕ, Bool, true, false, length, codes, ◌==◌, ◌&&◌, ◌||◌, nat_le, not, if◌then◌else◌}
 use Rattle.std.specs.List.{list_all}
 use Rattle.std.specs.Str.{bytes_eq}
-use Rattle.house_base.specs.Name.{is_name_byte}
 use Rattle.house_base.specs.declared.phase.Phase.{Phase}
 use Rattle.house_base.specs.declared.phase.Phase.TheVariants as phase
 use Rattle.house_model.specs.declared.verb.Verb.{Verb}
@@ -85,10 +84,6 @@ allows phase.Closed verb.Other = true
 allows phase.Closed v = false
 allows phase.Drawn verb.Other = true
 allows phase.Drawn v = false
-
--- a seed: 1 to 64 bytes of a-z, A-Z, 0-9 and the hyphen
-unfoldable pub is_seed : Text → Bool
-is_seed w = nat_lt 0 (length w) && nat_le (length w) 64 && list_all (λ b. is_name_byte b || (nat_le 65 b && nat_le b 90)) w
 
 -- a digest in hexadecimal: 64 digits of 0-9 and a-f
 unfoldable pub is_hex64 : Text → Bool

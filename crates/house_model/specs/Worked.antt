@@ -52,8 +52,8 @@ five = record {
 }
 
 -- Two seats, two clusters, one review each: a person with the applicants a1 and a2, and the persons b and c.
-unfoldable pub four_applicants : Setting
-four_applicants = record {
+unfoldable pub three_persons : Setting
+three_persons = record {
   seats = 2;
   clusters = 2;
   reviews = 1;
@@ -65,7 +65,7 @@ four_applicants = record {
 -- a reviews b and c, b reviews a1 and c reviews a2; nobody gives points
 unfoldable pub four : Profile
 four = record {
-  setting = four_applicants;
+  setting = three_persons;
   pairs = listed ((0, 2) ∷ (0, 3) ∷ (2, 0) ∷ (3, 1) ∷ []);
   points = one_point_for [];
 }

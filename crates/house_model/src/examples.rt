@@ -5,6 +5,7 @@ ghost use Rattle.house_base.specs.declared.answer.Reason.TheVariants as reason;
 ghost use Rattle.house_model.specs.declared.goal.Goal.TheVariants as goal;
 ghost use Rattle.house_model.specs.Ending.{Ended};
 ghost use Rattle.house_model.specs.Examples as call;
+ghost use Rattle.house_model.specs.Reviews.{asides_of, points_of};
 ghost use Rattle.house_model.specs.Text.{lines};
 ghost use Rattle.house_model.specs.Transitional.{end_of, report_of};
 
@@ -32,8 +33,42 @@ pub fn ends()
 pub fn refusals()
     ensures no_command { end_of goal.Run (lines (codes "call 1 2 1\nhello\n")) ≡ Ended.Refused 2 reason.Form }
     ensures draw_at_once { end_of goal.Run (lines (codes "call 1 2 1\ndraw 0\n")) ≡ Ended.Refused 2 reason.Order }
-    ensures capital { end_of goal.Run (lines (codes "call 1 2 1\napplicant Bob\n")) ≡ Ended.Refused 2 reason.Later }
+    ensures capital { end_of goal.Run (lines (codes "call 1 2 1\napplicant Bob\n")) ≡ Ended.Refused 2 reason.Name }
     ensures many_words { end_of goal.Run (lines (codes "call 1 2 1\napplicant a b c d\n")) ≡ Ended.Refused 2 reason.Form }
-    ensures sixth { end_of goal.Run (lines (codes "call 1 2 1\napplicant a1 a\napplicant a2 a\napplicant a3 a\napplicant a4 a\napplicant a5 a\napplicant a6 a\n")) ≡ Ended.Refused 7 reason.Later }
-    ensures nothing { end_of goal.Run (lines (codes "")) ≡ Ended.Refused 1 reason.Later }
+    ensures one_too_many { end_of goal.Run (lines (codes "call 1 2 1\napplicant a1 a\napplicant a2 a\napplicant a3 a\napplicant a4 a\napplicant a5 a\napplicant a6 a\n")) ≡ Ended.Refused 7 reason.TooMany }
+    ensures nothing { end_of goal.Run (lines (codes "")) ≡ Ended.Refused 1 reason.NoCall }
+{}
+
+/// The report of a call in which the applicants of one person are not registered one after the other.
+pub fn two_of_one_person_apart()
+    ensures report { report_of (lines call.two_of_one_person_apart) ≡ call.two_of_one_person_apart_report }
+    ensures ends { end_of goal.Run (lines call.two_of_one_person_apart) ≡ Ended.Done }
+{}
+
+/// The report of a call in which reviews were written: the last line on a pair counts.
+pub fn five_reviewed()
+    ensures { report_of (lines call.five_reviewed) ≡ call.five_reviewed_report }
+{}
+
+/// Which review lines are set aside, and under which kind.
+pub fn four_set_aside()
+    ensures asides { asides_of goal.Run (lines call.four_set_aside)
+        ≡ record { form = 1; early = 1; late = 1; unknown = 1; unassigned = 1; range = 2 } }
+    ensures kept { points_of (lines (call.four_assigned ++ codes "review a c 5\nreview a c 7\nreview a c 101\n")) 0 2 ≡ 7 }
+{}
+
+/// What may not come where it stands.
+pub fn orders()
+    ensures second_call { end_of goal.Run (lines (codes "call 1 2 1\ncall 1 2 1\n")) ≡ Ended.Refused 2 reason.Order }
+    ensures close_at_once { end_of goal.Run (lines (codes "call 1 2 1\nclose\n")) ≡ Ended.Refused 2 reason.Order }
+    ensures second_assign { end_of goal.Run (lines (call.four_assigned ++ codes "assign\n")) ≡ Ended.Refused 15 reason.Order }
+    ensures late_applicant { end_of goal.Run (lines (call.four_assigned ++ codes "applicant e\n")) ≡ Ended.Refused 15 reason.Order }
+    ensures late_place { end_of goal.Run (lines (call.four_assigned ++ codes "place a 1\n")) ≡ Ended.Refused 15 reason.Order }
+    ensures late_pair { end_of goal.Run (lines (call.four_assigned ++ codes "pair a d\n")) ≡ Ended.Refused 15 reason.Order }
+    ensures draw_before_close { end_of goal.Run (lines (call.four_assigned ++ codes "draw 0\n")) ≡ Ended.Refused 15 reason.Order }
+    ensures second_close { end_of goal.Run (lines (call.four_before_the_draw ++ codes "close\n")) ≡ Ended.Refused 16 reason.Order }
+    ensures late_assign { end_of goal.Run (lines (call.four_before_the_draw ++ codes "assign\n")) ≡ Ended.Refused 16 reason.Order }
+    ensures second_draw { end_of goal.Run (lines (call.four_applicants ++ codes "draw 0\n")) ≡ Ended.Refused 17 reason.Order }
+    ensures draw_at_the_denominator { end_of goal.Run (lines (call.four_before_the_draw ++ codes "draw 4000000\n")) ≡ Ended.Refused 16 reason.Range }
+    ensures greatest_draw { end_of goal.Run (lines (call.four_before_the_draw ++ codes "draw 3999999\n")) ≡ Ended.Done }
 {}

@@ -1,3 +1,5 @@
+//! What a command file is run for.
+
 /// What a command file is run for.
 #[derive(Clone, Copy, Debug, PartialEq, Eq)]
 pub enum Goal {

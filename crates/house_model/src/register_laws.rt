@@ -3,14 +3,14 @@
 ghost use Rattle.std.specs.Prelude.{◌≡◌, ◌≢◌, ℕ, ◌<◌, ◌≤◌, All, IsTrue, length, slice_get};
 ghost use Rattle.house_base.specs.declared.limits.TheConstants.{MOST_SEATS, FEWEST_CLUSTERS, MOST_CLUSTERS, MOST_REVIEWS};
 ghost use Rattle.house_base.specs.Setting.{IsSetting};
-ghost use Rattle.house_model.specs.Register.{Register, IsRegister, all_placed, setting_of, people, place, entry};
+ghost use Rattle.house_model.specs.Register.{Register, IsRegister, all_placed, registered_setting, people, place, entry};
 ghost use Rattle.house_model.specs.Text.{Text};
 
 /// A register makes a setting, once somebody applied and each person has its cluster.
 pub fn register_makes_setting()
     ensures setting { (seats clusters reviews : ℕ) (reg : Register) → IsRegister reg → 1 ≤ length reg.applicants → IsTrue (all_placed reg)
         → (1 ≤ seats) × (seats ≤ MOST_SEATS) → (FEWEST_CLUSTERS ≤ clusters) × (clusters ≤ MOST_CLUSTERS) → (1 ≤ reviews) × (reviews ≤ MOST_REVIEWS)
-        → All (λ p. (1 ≤ p.1) × (p.1 ≤ clusters)) reg.placed → IsSetting (setting_of seats clusters reviews reg) }
+        → All (λ p. (1 ≤ p.1) × (p.1 ≤ clusters)) reg.placed → IsSetting (registered_setting seats clusters reviews reg) }
     ensures people { (reg : Register) → length (people reg) ≡ length reg.applicants }
 {}
 

@@ -1,0 +1,14 @@
+use Rattle.house_model.proofs.HeadlineLemmas.{counted, isolated, rounded, means}
+use Rattle.house_model.proofs.headline.whole_calls_keep_the_promise.Goals as goal
+
+pub returns-clause-counted : goal.returns-clause-counted
+returns-clause-counted c = counted
+
+pub returns-clause-isolated : goal.returns-clause-isolated
+returns-clause-isolated c = isolated
+
+pub returns-clause-rounded : goal.returns-clause-rounded
+returns-clause-rounded c = rounded
+
+pub returns-clause-means : goal.returns-clause-means
+returns-clause-means c = means

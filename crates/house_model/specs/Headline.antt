@@ -1,0 +1,47 @@
+use Rattle.std.specs.Prelude.{◌≡◌, ℕ, ◌+◌, ◌<◌}
+use Rattle.house_base.specs.Setting.{size}
+use Rattle.house_model.specs.declared.goal.Goal.TheVariants as goal
+use Rattle.house_model.specs.Counting.{count_below, sum_below}
+use Rattle.house_model.specs.Ending.{Ended}
+use Rattle.house_model.specs.Isolation.{without, IsApplicantOf}
+use Rattle.house_model.specs.Laws.{IsAssigned, IsRounded}
+use Rattle.house_model.specs.Lottery.{seats, selected, chance}
+use Rattle.house_model.specs.Profile.{denominator, quota}
+use Rattle.house_model.specs.Reviews.{profile}
+use Rattle.house_model.specs.Said.{setting, draw_of}
+use Rattle.house_model.specs.Text.{Text, Lines}
+use Rattle.house_model.specs.Transitional.{end_of}
+
+-- What is promised of the lines of a call whose report is printed.
+
+-- lines of a whole call: they come to their end, and give a setting, a valid assignment and a draw
+pub record AreOfCall (lines : Lines) : Type 0 where
+  pub done : end_of goal.Run lines ≡ Ended.Done
+  pub assigned : IsAssigned (profile lines)
+  pub drawn : draw_of lines < denominator (setting lines)
+
+-- each chance is the number of draws, of all that there are, at which the plain lottery selects the applicant
+abbrev pub ChancesAreCounted : Lines → Type 0
+ChancesAreCounted lines = (p : ℕ) → p < size (setting lines)
+    → chance (profile lines) p ≡ count_below (selected (profile lines) p) (denominator (setting lines))
+
+-- an applicant's chance is the same whatever its person writes or leaves out as a reviewer
+pub record OwnReviewsChangeNoChance (lines : Lines) : Type 0 where
+  pub left_out : (name : Text) (p : ℕ) → IsApplicantOf name lines p
+      → chance (profile (without name lines)) p ≡ chance (profile lines) p
+  pub still_done : (name : Text) → end_of goal.Run (without name lines) ≡ Ended.Done
+  pub rewritten : (name : Text) (others : Lines) (p : ℕ) → IsApplicantOf name lines p
+      → without name others ≡ without name lines → chance (profile others) p ≡ chance (profile lines) p
+
+-- the seats of each cluster are its quota, rounded down or up where it is not whole, and make all seats
+pub record SeatsAreQuotasRounded (lines : Lines) : Type 0 where
+  pub rounded : (i : ℕ) → i < (setting lines).clusters
+      → IsRounded (seats (profile lines) (i + 1) (draw_of lines)) (quota (profile lines) (i + 1))
+      (denominator (setting lines))
+  pub all : sum_below (λ i. seats (profile lines) (i + 1) (draw_of lines)) (setting lines).clusters
+      ≡ (setting lines).seats
+
+-- over all draws a cluster gets its quota of seats
+abbrev pub QuotasAreMeans : Lines → Type 0
+QuotasAreMeans lines = (i : ℕ) → i < (setting lines).clusters
+    → sum_below (λ v. seats (profile lines) (i + 1) v) (denominator (setting lines)) ≡ quota (profile lines) (i + 1)

@@ -1,0 +1,12 @@
+pub mod ArgumentLemmas
+pub mod CuttingLemmas
+pub mod DigestLemmas
+pub mod FeedLemmas
+pub mod HeldLemmas
+pub mod JoinedLemmas
+pub mod LineLemmas
+pub mod NumberLemmas
+pub mod OnceLemmas
+pub mod ReadBackLemmas
+pub mod WordLemmas
+pub mod WrittenLemmas

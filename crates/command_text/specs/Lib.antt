@@ -1,0 +1,5 @@
+pub mod Arguments
+pub mod Cutting
+pub mod Held
+pub mod Printing
+pub mod Reading

@@ -1,0 +1,101 @@
+//! The lines of a text that comes in pieces.
+
+use crate::cutting::{first_line_feed, without_return};
+use house_base::Memory;
+use std::alloc::Global;
+use std::marker::Model;
+use std::mem;
+
+/// What a feed came to.
+#[derive(Clone, Copy, Debug, PartialEq, Eq)]
+pub struct Fed {
+    /// How many bytes of the piece were used.
+    pub used: usize,
+    /// Whether a line ended.
+    pub whole: bool,
+}
+
+/// Takes a text in pieces, and gives its lines as they end.
+#[derive(Drop)]
+pub struct Cutter {
+    /// What was fed since the last line feed.
+    begun: Vec<u8>,
+    /// What the last feed ended, if it ended a line.
+    line: Vec<u8>,
+    whole: bool,
+}
+
+impl Model for Cutter {
+    ghost use Rattle.std.specs.Prelude.{Some, None, if◌then◌else◌};
+    ghost use Rattle.command_text.specs.Cutting.{Cutting};
+
+    ghost Value = { Cutting };
+
+    ghost view = { λ c. record { begun = c.begun.items; ended = if c.whole then Some c.line.items else None } };
+}
+
+impl Cutter {
+    ghost use Rattle.std.specs.Prelude.{◌≡◌, IfOk, OnErr, option_copied};
+    ghost use Rattle.command_text.specs.Cutting.{Feeds, fresh, ended_line, rest_of};
+
+    /// Nothing was fed.
+    pub fn new(alloc: Global) -> Cutter
+        ensures { result ≡ fresh }
+    {
+        Cutter {
+            begun: Vec::new(alloc),
+            line: Vec::new(alloc),
+            whole: false,
+        }
+    }
+
+    /// Uses a piece up to and with its first line feed, and then a line has ended; or all of it, where it has
+    /// none. After an error nothing has changed.
+    pub fn feed(&mut self, piece: &[u8]) -> Result<Fed, Memory>
+        ensures ok { IfOk result (λ fed. Feeds self.old piece.now fed.used fed.whole self.new) }
+        ensures err { OnErr result (self.new ≡ self.old) }
+    {
+        match first_line_feed(piece) {
+            Some(end) => {
+                self.begun.extend_from_slice(&piece[..end])?;
+                mem::swap(&mut self.begun, &mut self.line);
+                self.begun.clear();
+                self.whole = true;
+                Ok(Fed {
+                    used: end + 1,
+                    whole: true,
+                })
+            }
+            None => {
+                self.begun.extend_from_slice(piece)?;
+                self.whole = false;
+                Ok(Fed {
+                    used: piece.len(),
+                    whole: false,
+                })
+            }
+        }
+    }
+
+    /// The line that the last feed ended, without its line end. None where it ended none.
+    pub fn line(&self) -> Option<&[u8]>
+        ensures { option_copied result ≡ ended_line self.now }
+    {
+        if self.whole {
+            Some(without_return(&self.line))
+        } else {
+            None
+        }
+    }
+
+    /// What was fed since the last line feed, without a carriage return at its end. None where nothing was.
+    pub fn rest(&self) -> Option<&[u8]>
+        ensures { option_copied result ≡ rest_of self.now }
+    {
+        if self.begun.is_empty() {
+            None
+        } else {
+            Some(without_return(&self.begun))
+        }
+    }
+}

@@ -1,0 +1,25 @@
+//! The text of a command file: its lines, what a line says, and the line of a command.
+
+#![tactic(auto)]
+
+mod command;
+pub mod cutter;
+pub mod cutting;
+pub mod laws;
+pub mod line;
+pub mod lines;
+mod print;
+pub mod read;
+mod review;
+#[cfg(test)]
+mod tests;
+mod text;
+mod words;
+
+pub use cutter::{Cutter, Fed};
+pub use cutting::{cut, first_line, within};
+pub use house_model::{Command, Verb};
+pub use line::Line;
+pub use lines::Lines;
+pub use print::print_command;
+pub use read::read_line;

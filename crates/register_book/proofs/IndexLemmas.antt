@@ -1,0 +1,191 @@
+use Rattle.std.proofs.Common.{◌≡◌, ◌≢◌, ℕ, ◌+◌, ◌<◌, ◌≤◌, true, false, not, cond, eqb, ltb, List, [], ◌∷◌, ◌++◌, length, get_or, AllPairs, Some, None, position, is_some, bytes_eq, refl, sym, ap, ◌∙◌, subst, inl, inr, arith}
+use Rattle.std.specs.List.{position_or_len, prefix_len}
+use Rattle.std.specs.BTreeMap.{BTreeMap, get}
+use Rattle.std.specs.Cmp.Lexicographic.{slice_cmp, texts_ties}
+use Rattle.std.specs.Ordering.{nat_cmp, is_eq}
+use Rattle.std.proofs.lemmas.Bool.{cases_Bool, cases_lt, cond-true, cond-false, cond_both, false≢true, lt-ltb, le-ltb, eq-eqb, ne_eqb, not-true}
+use Rattle.std.proofs.lemmas.List.{length_push, get_or_push, get_or_append_left}
+use Rattle.std.proofs.lemmas.List.Folds.{prefix_len-append, position_or_len_push}
+use Rattle.std.proofs.lemmas.List.Quantifiers.{all_pairs_push}
+use Rattle.std.proofs.lemmas.Option.{same_Some, none-some}
+use Rattle.std.proofs.lemmas.List.Sums.{prefix_len-le-length, position_or_len_is, passes_at_first}
+use Rattle.house_base.specs.declared.limits.TheConstants.{MOST_APPLICANTS}
+use Rattle.house_model.specs.Text.{Text}
+use Rattle.house_model.specs.Register.{among}
+use Rattle.house_model.proofs.InOrderLemmas.{In, In-get_or, In-Contains}
+use Rattle.house_model.proofs.GroupLemmas.{same_text, bytes_eq-same, bytes_eq-other, cases_text, among-In, In-among, not_among, not_In}
+use Rattle.register_book.specs.Roll.{number_in}
+use Rattle.register_book.specs.Index.{IsIndex}
+
+-- The number of a text among others.
+
+pub number_in-le : (xs : List Text) (t : Text) → number_in xs t ≤ length xs
+unfolding number_in
+number_in-le xs t = prefix_len-le-length (λ x. not (bytes_eq t x)) xs
+
+pub number_of_member : (xs : List Text) (t : Text) → In t xs → number_in xs t < length xs
+unfolding number_in
+number_of_member [] t m = absurd m
+number_of_member (x ∷ xs) t m =
+    cond_both (not (bytes_eq t x)) (1 + number_in xs t) 0 (λ n. n < length (x ∷ xs))
+    (λ other. elim m [
+      | inl e ↦ absurd (false≢true (sym (not-true (bytes_eq t x) other) ∙ bytes_eq-same t x e))
+      | inr there ↦ omega (arith, number_of_member xs t there)
+    ])
+    (λ same. omega arith)
+
+pub number_in-known : (xs : List Text) (t : Text) → among xs t ≡ true → number_in xs t < length xs
+number_in-known xs t known = number_of_member xs t (among-In xs t known)
+
+-- what stands at a text's number
+pub at-number_in : (xs : List Text) (t : Text) → number_in xs t < length xs → get_or xs (number_in xs t) [] ≡ t
+unfolding number_in
+at-number_in xs t below = sym (same_text t (get_or xs (number_in xs t) []) (passes_at_first (bytes_eq t) xs [] below))
+
+pub known-number_in : (xs : List Text) (t : Text) → number_in xs t < length xs → among xs t ≡ true
+known-number_in xs t below =
+    In-among xs t (subst (λ x. In x xs) (at-number_in xs t below) (In-get_or xs (number_in xs t) [] below))
+
+pub number_in-unknown : (xs : List Text) (t : Text) → among xs t ≡ false → number_in xs t ≡ length xs
+number_in-unknown xs t unknown = elim (cases_lt (number_in xs t) (length xs)) [
+  | inl below ↦ absurd (false≢true (sym unknown ∙ known-number_in xs t below))
+  | inr above ↦ omega (arith, number_in-le xs t)
+]
+
+-- the number of what stands at a place, where no two are equal
+pub number_in-at : (xs : List Text) (i : ℕ) → AllPairs (λ a b. a ≢ b) xs → i < length xs → number_in xs (get_or xs i []) ≡ i
+unfolding number_in
+number_in-at xs i differ below =
+    position_or_len_is (bytes_eq (get_or xs i [])) xs i [] (omega arith)
+    (λ k l. bytes_eq-other (get_or xs i []) (get_or xs k []) (λ e. differ k i [] l below (sym e)))
+    (λ l. bytes_eq-same (get_or xs i []) (get_or xs i []) refl)
+
+-- behind those that have numbers there is room for more
+pub number_in-append : (xs ys : List Text) (t : Text) → number_in xs t < length xs → number_in (xs ++ ys) t ≡ number_in xs t
+unfolding number_in
+number_in-append xs ys t below =
+    let p = λ (x : Text). not (bytes_eq t x) in
+    prefix_len-append p xs ys
+    ∙ cond-false (eqb (prefix_len p xs) (length xs)) (length xs + prefix_len p ys) (prefix_len p xs) (ne_eqb (prefix_len p xs) (length xs) (λ e. omega arith))
+
+pub number_in-push : (xs : List Text) (y t : Text) → number_in xs t ≡ length xs → number_in (xs ++ y ∷ []) t ≡ length xs + cond (bytes_eq t y) 0 1
+unfolding number_in
+number_in-push xs y t last =
+    position_or_len_push (bytes_eq t) xs y
+    ∙ cond-true (eqb (position_or_len (bytes_eq t) xs) (length xs)) (length xs + cond (bytes_eq t y) 0 1) (position_or_len (bytes_eq t) xs) (eq-eqb (position_or_len (bytes_eq t) xs) (length xs) last)
+
+pub number_in-new : (xs : List Text) (t : Text) → among xs t ≡ false → number_in (xs ++ t ∷ []) t ≡ length xs
+number_in-new xs t new =
+    number_in-push xs t t (number_in-unknown xs t new) ∙ (ap (λ b. length xs + cond b 0 1) (bytes_eq-same t t refl) ∙ omega arith)
+
+-- The place of a text among others.
+
+pub position_known : (xs : List Text) (t : Text) → number_in xs t < length xs → position (bytes_eq t) xs ≡ Some (number_in xs t)
+unfolding number_in
+position_known xs t below =
+    cond-true (ltb (number_in xs t) (length xs)) (Some (number_in xs t)) None (lt-ltb (number_in xs t) (length xs) below)
+
+pub position_unknown : (xs : List Text) (t : Text) → length xs ≤ number_in xs t → position (bytes_eq t) xs ≡ None
+unfolding number_in
+position_unknown xs t above =
+    cond-false (ltb (number_in xs t) (length xs)) (Some (number_in xs t)) None (le-ltb (number_in xs t) (length xs) above)
+
+pub is_some-position : (xs : List Text) (t : Text) → is_some (position (bytes_eq t) xs) ≡ among xs t
+is_some-position xs t = elim (cases_Bool (among xs t)) [
+  | inl known ↦ ap is_some (position_known xs t (number_in-known xs t known)) ∙ sym known
+  | inr unknown ↦ ap is_some (position_unknown xs t (omega (arith, number_in-unknown xs t unknown))) ∙ sym unknown
+]
+
+pub position_push : (xs : List Text) (y t : Text) → among xs y ≡ false
+    → position (bytes_eq t) (xs ++ y ∷ []) ≡ cond (bytes_eq y t) (Some (length xs)) (position (bytes_eq t) xs)
+position_push xs y t new = elim (cases_text y t) [
+  | inl same ↦
+      let last = number_in-unknown xs t (ap (among xs) (sym same) ∙ new) in
+      let number : number_in (xs ++ y ∷ []) t ≡ length xs
+      = number_in-push xs y t last ∙ (ap (λ b. length xs + cond b 0 1) (bytes_eq-same t y (sym same)) ∙ omega arith) in
+      position_known (xs ++ y ∷ []) t (omega (arith, number, length_push xs y))
+      ∙ (ap Some number ∙ sym (cond-true (bytes_eq y t) (Some (length xs)) (position (bytes_eq t) xs) (bytes_eq-same y t same)))
+  | inr other ↦ elim (cases_Bool (among xs t)) [
+    | inl known ↦
+        let below = number_in-known xs t known in
+        let number = number_in-append xs (y ∷ []) t below in
+        position_known (xs ++ y ∷ []) t (omega (arith, number, below, length_push xs y))
+        ∙ (ap Some number ∙ (sym (position_known xs t below)
+        ∙ sym (cond-false (bytes_eq y t) (Some (length xs)) (position (bytes_eq t) xs) (bytes_eq-other y t other))))
+    | inr unknown ↦
+        let last = number_in-unknown xs t unknown in
+        let number : number_in (xs ++ y ∷ []) t ≡ length xs + 1
+        = number_in-push xs y t last ∙ ap (λ b. length xs + cond b 0 1) (bytes_eq-other t y (λ e. other (sym e))) in
+        position_unknown (xs ++ y ∷ []) t (omega (arith, number, length_push xs y))
+        ∙ (sym (position_unknown xs t (omega (arith, last)))
+        ∙ sym (cond-false (bytes_eq y t) (Some (length xs)) (position (bytes_eq t) xs) (bytes_eq-other y t other)))
+  ]
+]
+
+-- An index with one name more, and with one less.
+
+pub AllPairs-push_text : (xs : List Text) (y : Text) → AllPairs (λ a b. a ≢ b) xs → among xs y ≡ false → AllPairs (λ a b. a ≢ b) (xs ++ y ∷ [])
+AllPairs-push_text xs y differ new =
+    all_pairs_push (λ a b. a ≢ b) xs y differ
+    (λ k d l e. not_In xs y new (subst (λ x. In x xs) e (In-get_or xs k d l)))
+
+pub IsIndex-push : (xs : List Text) (y : Text) (number : ℕ) (m n : BTreeMap Text ℕ) → IsIndex xs m → among xs y ≡ false
+    → number ≡ length xs → length xs < MOST_APPLICANTS
+    → ((q : Text) → get (slice_cmp nat_cmp) n q ≡ cond (is_eq (slice_cmp nat_cmp y q)) (Some number) (get (slice_cmp nat_cmp) m q))
+    → IsIndex (xs ++ y ∷ []) n
+IsIndex-push xs y number m n h new last few updated = record {
+  few = omega (arith, length_push xs y, few);
+  differ = AllPairs-push_text xs y h.differ new;
+  found = λ q.
+      updated q
+      ∙ (ap (λ b. cond b (Some number) (get (slice_cmp nat_cmp) m q)) (sym (texts_ties y q))
+      ∙ (ap (λ k. cond (bytes_eq y q) (Some k) (get (slice_cmp nat_cmp) m q)) last
+      ∙ (ap (λ o. cond (bytes_eq y q) (Some (length xs)) o) (h.found q)
+      ∙ sym (position_push xs y q new))));
+}
+
+-- the last of a list stands nowhere before
+pub last_is_new : (xs : List Text) (y : Text) → AllPairs (λ a b. a ≢ b) (xs ++ y ∷ []) → among xs y ≡ false
+last_is_new xs y differ = not_among xs y (λ m. earlier xs y differ m)
+  where
+    earlier : (xs : List Text) (y : Text) → AllPairs (λ a b. a ≢ b) (xs ++ y ∷ []) → In y xs → ⊥
+    earlier xs y differ m =
+        let c = In-Contains y xs m in
+        differ c.0 (length xs) y c.1 (omega (arith, length_push xs y))
+        (get_or_append_left xs (y ∷ []) y c.0 c.1 ∙ (c.2 ∙ sym (get_or_push xs y y (length xs) refl)))
+
+pub IsIndex-pop : (xs ys : List Text) (y : Text) (m n : BTreeMap Text ℕ) → IsIndex xs m → xs ≡ ys ++ y ∷ []
+    → ((q : Text) → get (slice_cmp nat_cmp) n q ≡ cond (is_eq (slice_cmp nat_cmp y q)) None (get (slice_cmp nat_cmp) m q))
+    → IsIndex ys n
+IsIndex-pop xs ys y m n h e updated =
+    let differ : AllPairs (λ a b. a ≢ b) (ys ++ y ∷ []) = subst (λ l. AllPairs (λ a b. a ≢ b) l) e h.differ in
+    let new = last_is_new ys y differ in
+    record {
+      few = omega (arith, h.few, ap length e, length_push ys y);
+      differ = λ i j d below l.
+          subst (λ a. a ≢ get_or ys j d) (get_or_append_left ys (y ∷ []) d i (omega arith))
+          (subst (λ b. get_or (ys ++ y ∷ []) i d ≢ b) (get_or_append_left ys (y ∷ []) d j l) (differ i j d below (omega (arith, length_push ys y))));
+      found = λ q.
+          updated q
+          ∙ (ap (λ b. cond b None (get (slice_cmp nat_cmp) m q)) (sym (texts_ties y q))
+          ∙ (ap (λ o. cond (bytes_eq y q) None o) (h.found q ∙ (ap (position (bytes_eq q)) e ∙ position_push ys y q new))
+          ∙ gone ys y q new));
+    }
+  where
+    gone : (ys : List Text) (y q : Text) → among ys y ≡ false
+        → cond (bytes_eq y q) None (cond (bytes_eq y q) (Some (length ys)) (position (bytes_eq q) ys)) ≡ position (bytes_eq q) ys
+    gone ys y q new = elim (cases_text y q) [
+      | inl same ↦
+          cond-true (bytes_eq y q) None (cond (bytes_eq y q) (Some (length ys)) (position (bytes_eq q) ys)) (bytes_eq-same y q same)
+          ∙ sym (position_unknown ys q (omega (arith, number_in-unknown ys q (ap (among ys) (sym same) ∙ new))))
+      | inr other ↦
+          cond-false (bytes_eq y q) None (cond (bytes_eq y q) (Some (length ys)) (position (bytes_eq q) ys)) (bytes_eq-other y q other)
+          ∙ cond-false (bytes_eq y q) (Some (length ys)) (position (bytes_eq q) ys) (bytes_eq-other y q other)
+    ]
+
+-- what a place tells of a number
+pub number_from_position : (xs : List Text) (t : Text) (i : ℕ) → position (bytes_eq t) xs ≡ Some i → (number_in xs t ≡ i) × (i < length xs)
+number_from_position xs t i e = elim (cases_lt (number_in xs t) (length xs)) [
+  | inl below ↦ let same = same_Some (number_in xs t) i (sym (position_known xs t below) ∙ e) in (same, omega (arith, same, below))
+  | inr above ↦ absurd (none-some i (sym (position_unknown xs t above) ∙ e))
+]

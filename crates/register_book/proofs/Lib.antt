@@ -1,0 +1,9 @@
+pub mod ApplicantLemmas
+pub mod BitLemmas
+pub mod IndexLemmas
+pub mod KeptLemmas
+pub mod NamedLemmas
+pub mod PairLemmas
+pub mod PairSeenLemmas
+pub mod RollLemmas
+pub mod SeenLemmas

@@ -1,0 +1,7 @@
+use Rattle.register_book.proofs.IndexLemmas.{IsIndex-pop}
+use Rattle.register_book.proofs.index.NameIndex.remove_last.Goals as goal
+
+pub invariant_of-self : goal.invariant_of-self
+invariant_of-self c =
+    IsIndex-pop c.self.inside.names.items c.pop.new.self.items c.in-Some.name c.self.inside.numbers c.remove.new.self c.self.invariant
+    c.in-Some.ensures.items (λ q. c.remove.ensures.updates.0 q)

@@ -1,0 +1,3 @@
+pub mod BarredLemmas
+pub mod PeopleLemmas
+pub mod SettingLemmas

@@ -1,0 +1,167 @@
+use Rattle.std.proofs.Common.{◌≡◌, ℕ, suc, ◌+◌, ◌<◌, ◌≤◌, true, false, List, [], ◌∷◌, ◌++◌, length, get_or, map, filter, find, flat_map, take, bytes_eq, Option, Some, None, is_some, IfSome, slice_get, refl, sym, ap, ◌∙◌, inl, inr, arith, length-append, append-nil, append_assoc, length-take-le, le_of_lt}
+use Rattle.std.specs.List.{enumerate_from}
+use Rattle.std.specs.Option.{option_map, option_map_or, unwrap_or}
+use Rattle.std.proofs.lemmas.Bool.{cond-true, cond-false}
+use Rattle.std.proofs.lemmas.List.{take_more, map_push, take_all}
+use Rattle.std.proofs.lemmas.List.Elements.{filter-append}
+use Rattle.std.proofs.lemmas.List.Concat.{flat_map-append}
+use Rattle.std.proofs.lemmas.List.Sums.{count_by-le-length}
+use Rattle.std.proofs.lemmas.Option.{slice_get-map, slice_get_within, slice_get-get_or, get_or_from_slice_get, same_Some}
+use Rattle.house_base.specs.declared.plan.Person.{Person}
+use Rattle.house_base.specs.declared.plan.Owner.{Owner}
+use Rattle.house_model.specs.Text.{Text}
+use Rattle.house_model.specs.Register.{Register, names, persons, placed_names, own_count, own_people, people, owners, owners_from, entry, cluster_of, person_of, among}
+use Rattle.register_book.specs.Held.{text_at}
+use Rattle.house_model.proofs.InOrderLemmas.{In}
+use Rattle.house_model.proofs.GroupLemmas.{In-group, bytes_eq-other, not_In, not_among}
+use Rattle.house_model.proofs.RegisterPeopleLemmas.{Numbered, person_in, numbered, own_entries, length-own_people}
+
+-- The people of a plan, person by person.
+
+-- The applicants of one person.
+
+-- the rows of a person's applicants among these, in this cluster
+abbrev pub own_rows : Text → ℕ → List Numbered → List Person
+own_rows person cluster es = map (λ e. record { name = e.1.0; cluster = cluster; number = e.0 }) (filter (λ e. bytes_eq e.1.1 person) es)
+
+enumerate_from-append : {X : Type 0} (n : ℕ) (xs ys : List X) → enumerate_from n (xs ++ ys) ≡ enumerate_from n xs ++ enumerate_from (n + length xs) ys
+enumerate_from-append n [] ys = ap (λ m. enumerate_from m ys) (let e : n ≡ n + 0 = omega arith in e)
+enumerate_from-append n (x ∷ xs) ys =
+    ap (λ l. (n, x) ∷ l) (enumerate_from-append (n + 1) xs ys
+    ∙ ap (λ m. enumerate_from (n + 1) xs ++ enumerate_from m ys) (let e : n + 1 + length xs ≡ n + suc (length xs) = omega arith in e))
+
+-- one more applicant, numbered
+numbered_more : {X : Type 0} (xs : List X) (i : ℕ) (x : X) → slice_get xs i ≡ Some x → enumerate_from 0 (take (i + 1) xs) ≡ enumerate_from 0 (take i xs) ++ (i, x) ∷ []
+numbered_more xs i x at =
+    let l = slice_get_within xs i x at in
+    ap (enumerate_from 0) (take_more xs i x l ∙ ap (λ y. take i xs ++ y ∷ []) (get_or_from_slice_get xs i x x at))
+    ∙ (enumerate_from-append 0 (take i xs) (x ∷ [])
+    ∙ ap (λ m. enumerate_from 0 (take i xs) ++ (m, x) ∷ []) (let e : 0 + length (take i xs) ≡ i = omega (arith, length-take-le i xs (le_of_lt l)) in e))
+
+pub own_rows-more : (person : Text) (cluster : ℕ) (xs : List (Text × Text)) (i : ℕ) (x : Text × Text) → slice_get xs i ≡ Some x → bytes_eq x.1 person ≡ true
+    → own_rows person cluster (enumerate_from 0 (take (i + 1) xs)) ≡ own_rows person cluster (enumerate_from 0 (take i xs)) ++ record { name = x.0; cluster = cluster; number = i } ∷ []
+own_rows-more person cluster xs i x at own =
+    ap (own_rows person cluster) (numbered_more xs i x at)
+    ∙ (ap (map (λ e. record { name = e.1.0; cluster = cluster; number = e.0 }))
+    (filter-append (λ e. bytes_eq e.1.1 person) (enumerate_from 0 (take i xs)) ((i, x) ∷ [])
+    ∙ ap (λ l. filter (λ e. bytes_eq e.1.1 person) (enumerate_from 0 (take i xs)) ++ l) (cond-true (bytes_eq x.1 person) ((i, x) ∷ []) [] own))
+    ∙ map_push (λ e. record { name = e.1.0; cluster = cluster; number = e.0 }) (filter (λ e. bytes_eq e.1.1 person) (enumerate_from 0 (take i xs))) (i, x))
+
+pub own_rows-same : (person : Text) (cluster : ℕ) (xs : List (Text × Text)) (i : ℕ) (x : Text × Text) → slice_get xs i ≡ Some x → bytes_eq x.1 person ≡ false
+    → own_rows person cluster (enumerate_from 0 (take (i + 1) xs)) ≡ own_rows person cluster (enumerate_from 0 (take i xs))
+own_rows-same person cluster xs i x at other =
+    ap (own_rows person cluster) (numbered_more xs i x at)
+    ∙ ap (map (λ e. record { name = e.1.0; cluster = cluster; number = e.0 }))
+    (filter-append (λ e. bytes_eq e.1.1 person) (enumerate_from 0 (take i xs)) ((i, x) ∷ [])
+    ∙ (ap (λ l. filter (λ e. bytes_eq e.1.1 person) (enumerate_from 0 (take i xs)) ++ l) (cond-false (bytes_eq x.1 person) ((i, x) ∷ []) [] other)
+    ∙ append-nil (filter (λ e. bytes_eq e.1.1 person) (enumerate_from 0 (take i xs)))))
+
+map-agree : {X Y : Type 0} (f g : X → Y) (xs : List X) → ((x : X) → In x xs → f x ≡ g x) → map f xs ≡ map g xs
+map-agree f g [] h = refl
+map-agree f g (x ∷ xs) h = ap (λ y. y ∷ map f xs) (h x (inl refl)) ∙ ap (λ l. g x ∷ l) (map-agree f g xs (λ y m. h y (inr m)))
+
+-- all rows of a person are its people
+own_rows-whole : (reg : Register) (person : Text) → own_rows person (cluster_of reg person) (numbered reg) ≡ own_people reg person
+unfolding own_people
+own_rows-whole reg person =
+    map-agree (λ e. record { name = e.1.0; cluster = cluster_of reg person; number = e.0 }) (entry reg) (own_entries reg person)
+    (λ e m. ap (λ t. record { name = e.1.0; cluster = cluster_of reg t; number = e.0 }) (sym (In-group person_in (numbered reg) person e m).1))
+
+-- the applicant with a number, by its name and its person
+pub applicant_parts : (reg : Register) (i : ℕ) (name : Text) → slice_get (names reg) i ≡ Some name → slice_get reg.applicants i ≡ Some (name, person_of reg i)
+unfolding person_of
+applicant_parts reg i name e = which (slice_get reg.applicants i) (sym (slice_get-map (λ a. a.0) reg.applicants i) ∙ e)
+  where
+    which : (o : Option (Text × Text)) → option_map (λ a. a.0) o ≡ Some name → o ≡ Some (name, option_map_or (λ a. a.1) o [])
+    which None h = absurd (let wrong : ⊥ = cc in wrong)
+    which (Some a) h = ap (λ t. Some (t, a.1)) (same_Some a.0 name h)
+
+pub applicant_known : (reg : Register) (i : ℕ) → i < length reg.applicants → (name : Text) × (slice_get reg.applicants i ≡ Some (name, person_of reg i))
+applicant_known reg i l =
+    let a = get_or reg.applicants i ([], []) in
+    let at = slice_get-get_or reg.applicants i ([], []) l in
+    (a.0, applicant_parts reg i a.0 (slice_get-map (λ b. b.0) reg.applicants i ∙ ap (option_map (λ b. b.0)) at))
+
+-- a person that was put into no cluster
+not_found : (placed : List (Text × ℕ)) (person : Text) → among (map (λ p. p.0) placed) person ≡ false → find (λ p. bytes_eq p.0 person) placed ≡ None
+not_found [] person h = refl
+not_found (p ∷ ps) person h =
+    let absent = not_In (map (λ q. q.0) (p ∷ ps)) person h in
+    cond-false (bytes_eq p.0 person) (Some p) (find (λ q. bytes_eq q.0 person) ps) (bytes_eq-other p.0 person (λ e. absent (inl (sym e))))
+    ∙ not_found ps person (not_among (map (λ q. q.0) ps) person (λ m. absent (inr m)))
+
+cluster_or_none : (reg : Register) (person : Text) (o : Option ℕ) → is_some o ≡ among (placed_names reg) person → IfSome o (λ cluster. cluster ≡ cluster_of reg person)
+    → unwrap_or o 0 ≡ cluster_of reg person
+unfolding cluster_of
+cluster_or_none reg person None placed same = sym (ap (λ w. option_map_or (λ p. p.1) w 0) (not_found reg.placed person (sym placed)))
+cluster_or_none reg person (Some cluster) placed same = same
+
+-- all of a person's rows, when each applicant was looked at
+pub whole_own : (reg : Register) (person number cluster : ℕ) (name : Text) (o : Option ℕ) (before ps : List Person) → slice_get (persons reg) person ≡ Some name
+    → is_some o ≡ among (placed_names reg) (text_at (persons reg) person) → IfSome o (λ k. k ≡ cluster_of reg (text_at (persons reg) person)) → cluster ≡ unwrap_or o 0
+    → length reg.applicants ≤ number → ps ≡ before ++ own_rows name cluster (enumerate_from 0 (take number reg.applicants))
+    → ps ≡ before ++ own_people reg (text_at (persons reg) person)
+whole_own reg person number cluster name o before ps here placed same chosen l e =
+    let named = get_or_from_slice_get (persons reg) person name [] here in
+    let in_cluster = chosen ∙ (cluster_or_none reg (text_at (persons reg) person) o placed same ∙ ap (cluster_of reg) named) in
+    e
+    ∙ ap (λ rows. before ++ rows)
+    (ap (λ ys. own_rows name cluster (enumerate_from 0 ys)) (take_all number reg.applicants l)
+    ∙ (ap (λ k. own_rows name k (numbered reg)) in_cluster ∙ (own_rows-whole reg name ∙ ap (own_people reg) (sym named))))
+
+pub length_whole : (reg : Register) (person : Text) (before ps : List Person) → ps ≡ before ++ own_people reg person → length ps ≡ length before + own_count reg person
+length_whole reg person before ps e = ap length e ∙ omega (arith, length-append before (own_people reg person), length-own_people reg person)
+
+pub push_row : (ps front rows : List Person) (row : Person) → ps ≡ front ++ rows → ps ++ row ∷ [] ≡ front ++ (rows ++ row ∷ [])
+push_row ps front rows row e = ap (λ l. l ++ row ∷ []) e ∙ append_assoc front rows (row ∷ [])
+
+pub own_count-le : (reg : Register) (person : Text) → own_count reg person ≤ length reg.applicants
+unfolding own_count
+own_count-le reg person = count_by-le-length (λ a. bytes_eq a.1 person) reg.applicants
+
+-- One person more.
+
+owners_from-push : (reg : Register) (first : ℕ) (ps : List Text) (p : Text)
+    → owners_from reg first (ps ++ p ∷ []) ≡ owners_from reg first ps ++ record { name = p; first = first + length (flat_map (own_people reg) ps); own = own_count reg p } ∷ []
+owners_from-push reg first [] p = ap (λ n. record { name = p; first = n; own = own_count reg p } ∷ []) (let e : first ≡ first + 0 = omega arith in e)
+owners_from-push reg first (q ∷ qs) p =
+    ap (λ l. record { name = q; first = first; own = own_count reg q } ∷ l) (owners_from-push reg (first + own_count reg q) qs p
+    ∙ ap (λ n. owners_from reg (first + own_count reg q) qs ++ record { name = p; first = n; own = own_count reg p } ∷ [])
+    (let e : first + own_count reg q + length (flat_map (own_people reg) qs) ≡ first + length (flat_map (own_people reg) (q ∷ qs)) =
+    omega (arith, length-append (own_people reg q) (flat_map (own_people reg) qs), length-own_people reg q) in e))
+
+-- of the first persons by number
+abbrev pub people_up_to : Register → ℕ → List Person
+people_up_to reg n = flat_map (own_people reg) (take n (persons reg))
+
+abbrev pub owners_up_to : Register → ℕ → List Owner
+owners_up_to reg n = owners_from reg 0 (take n (persons reg))
+
+persons_more : (reg : Register) (n : ℕ) (p : Text) → slice_get (persons reg) n ≡ Some p → take (n + 1) (persons reg) ≡ take n (persons reg) ++ p ∷ []
+persons_more reg n p at =
+    take_more (persons reg) n p (slice_get_within (persons reg) n p at) ∙ ap (λ t. take n (persons reg) ++ t ∷ []) (get_or_from_slice_get (persons reg) n p p at)
+
+pub people-more : (reg : Register) (n : ℕ) (p : Text) → slice_get (persons reg) n ≡ Some p → people_up_to reg (n + 1) ≡ people_up_to reg n ++ own_people reg p
+people-more reg n p at =
+    ap (flat_map (own_people reg)) (persons_more reg n p at)
+    ∙ (flat_map-append (own_people reg) (take n (persons reg)) (p ∷ []) ∙ ap (λ l. people_up_to reg n ++ l) (append-nil (own_people reg p)))
+
+pub owners-more : (reg : Register) (n : ℕ) (p : Text) → slice_get (persons reg) n ≡ Some p
+    → owners_up_to reg (n + 1) ≡ owners_up_to reg n ++ record { name = p; first = length (people_up_to reg n); own = own_count reg p } ∷ []
+owners-more reg n p at =
+    ap (owners_from reg 0) (persons_more reg n p at)
+    ∙ (owners_from-push reg 0 (take n (persons reg)) p
+    ∙ ap (λ k. owners_up_to reg n ++ record { name = p; first = k; own = own_count reg p } ∷ []) (let e : 0 + length (people_up_to reg n) ≡ length (people_up_to reg n) = omega arith in e))
+
+pub whole_people : (reg : Register) (n : ℕ) → length (persons reg) ≤ n → people_up_to reg n ≡ people reg
+unfolding people
+whole_people reg n l = ap (flat_map (own_people reg)) (take_all n (persons reg) l)
+
+pub whole_owners : (reg : Register) (n : ℕ) → length (persons reg) ≤ n → owners_up_to reg n ≡ owners reg
+unfolding owners
+whole_owners reg n l = ap (owners_from reg 0) (take_all n (persons reg) l)
+
+pub same_owner : (a : Owner) (name : Text) (first own : ℕ) → a.name ≡ name → a.first ≡ first → a.own ≡ own → ◌≡◌ {A = Owner} a (record { name = name; first = first; own = own })
+same_owner a name first own e f g =
+    ap (λ t. record { name = t; first = a.first; own = a.own }) e
+    ∙ (ap (λ n. record { name = name; first = n; own = a.own }) f ∙ ap (λ n. record { name = name; first = first; own = n }) g)

@@ -1,0 +1,53 @@
+//! The pairs of a register that may not be, by places.
+
+ghost use Rattle.std.specs.Prelude.{◌≡◌, ℕ, ◌<◌, ◌*◌, ◌==◌, ◌&&◌, ◌||◌, IfOk, length, slice_index_or};
+ghost use Rattle.house_base.specs.Grid.{cell};
+ghost use Rattle.house_model.specs.Register.{persons, people, owners, pair_among};
+ghost use Rattle.register_book.specs.Held.{text_at};
+ghost use Rattle.cluster_draw.specs.Barred.{is_barred, name_in};
+
+use house_base::{Grid, Memory, Owner, Person};
+use register_book::Book;
+use std::alloc::Global;
+
+/// The pairs of a person's first place and an applicant's place that may not be.
+pub fn barred_pairs(
+    alloc: Global,
+    book: &Book,
+    applicants: &[Person],
+    reviewers: &[Owner],
+) -> Result<Grid, Memory>
+    requires applicants { applicants.now ≡ people book.now }
+    requires reviewers { reviewers.now ≡ owners book.now }
+    ensures side { IfOk result (λ grid. grid.side ≡ length book.now.applicants) }
+    ensures square { IfOk result (λ grid. length grid.cells ≡ grid.side * grid.side) }
+    ensures cells { IfOk result (λ grid. (r p : ℕ) → r < length book.now.applicants → p < length book.now.applicants
+        → cell grid r p ≡ is_barred book.now.barred (people book.now) (owners book.now) r p) }
+{
+    let mut barred = Grid::new(alloc, book.count())?;
+    for person in 0..book.persons() {
+        let reviewer = reviewers[person as usize];
+        bar_person(&mut barred, book, applicants, person, reviewer.first);
+    }
+    Ok(barred)
+}
+
+/// Bars the person with a number, whose first place this is, from each applicant in a conflict with it.
+fn bar_person(barred: &mut Grid, book: &Book, applicants: &[Person], person: u32, first: u32)
+    requires side { barred.old.side ≡ length book.now.applicants }
+    requires applicants { applicants.now ≡ people book.now }
+    requires known { person < length (persons book.now) }
+    requires first_below { first < length book.now.applicants }
+    ensures side { barred.new.side ≡ barred.old.side }
+    ensures as_many { length barred.new.cells ≡ length barred.old.cells }
+    ensures cells { (r p : ℕ) → r < length book.now.applicants → p < length book.now.applicants → cell barred.new r p
+        ≡ (cell barred.old r p || (first == r
+        && pair_among book.now.barred (text_at (persons book.now) person) (name_in (people book.now) p))) }
+{
+    for place in 0..barred.side() {
+        let applicant = applicants[place as usize];
+        if book.barred(person, applicant.number) {
+            barred.set(first, place, true);
+        }
+    }
+}

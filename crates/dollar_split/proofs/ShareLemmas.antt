@@ -1,0 +1,92 @@
+use Rattle.std.proofs.Common.{◌≡◌, ◌≢◌, ℕ, ◌+◌, ◌*◌, ◌/◌, ◌%◌, ◌<◌, ◌≤◌, true, false, ◌&&◌, ◌||◌, eqb, ltb, Bool, List, length, map, sum, get_or, set, refl, sym, ap, ◌∙◌, arith, below_more}
+use Rattle.std.proofs.lemmas.Bool.{cond-true, cond-false}
+use Rattle.std.proofs.lemmas.Bool.Decides.{nat_tests}
+use Rattle.std.proofs.lemmas.List.{get_or-map, get_or-set_same, get_or-set_other}
+use Rattle.house_base.specs.declared.limits.TheConstants.{DOLLAR}
+use Rattle.house_model.specs.Counting.{count_below, sum_below}
+use Rattle.house_model.specs.Split.{weights, base_at, remainder_at, left_over, comes_before, cents_at}
+use Rattle.house_model.proofs.CountingLemmas.{one_if, count_below-add_one, count_below-same, sum_below-term, sum_below-same}
+use Rattle.house_model.proofs.SplitLemmas.{left_over-less, cents-sum, sum_below-items}
+use Rattle.dollar_split.specs.Weighed.{is_silent, goes_before, is_among_first, extra_at}
+
+-- Weights and shares.
+
+pub weight-silent : (points : List ℕ) (i : ℕ) → is_silent points ≡ true → i < length points → 1 ≡ get_or (weights points) i 0
+unfolding weights
+weight-silent points i h l =
+    sym (ap (λ ws. get_or ws i 0) (cond-true (is_silent points) (map (λ x. 1) points) points h) ∙ get_or-map (λ x. 1) points i 0 0 l)
+
+pub weight-given : (points : List ℕ) (i : ℕ) → is_silent points ≡ false → get_or points i 0 ≡ get_or (weights points) i 0
+unfolding weights
+weight-given points i h = sym (ap (λ ws. get_or ws i 0) (cond-false (is_silent points) (map (λ x. 1) points) points h))
+
+pub base-read : (points : List ℕ) (i w total : ℕ) → w ≡ get_or (weights points) i 0 → total ≡ sum (weights points) → DOLLAR * w / total ≡ base_at points i
+unfolding base_at
+base-read points i w total is together = rw (is, together) refl
+
+pub remainder-read : (points : List ℕ) (i w total : ℕ) → w ≡ get_or (weights points) i 0 → total ≡ sum (weights points) → DOLLAR * w % total ≡ remainder_at points i
+unfolding remainder_at
+remainder-read points i w total is together = rw (is, together) refl
+
+-- no share is more than the dollar
+pub base-less : (points : List ℕ) (i : ℕ) → i < length points → base_at points i ≤ DOLLAR
+base-less points i l =
+    let left = left_over-less points (omega arith) in
+    omega (arith, left.0, sum_below-term (base_at points) i (length points) l)
+
+-- which of two remainders goes first
+
+pub larger_then : (own other j i : ℕ) → own < other → ltb own other ≡ (ltb own other || (eqb other own && ltb j i))
+larger_then own other j i h = grind (arith, nat_tests)
+
+pub larger_tied : (own other j i : ℕ) → other ≡ own → ltb j i ≡ (ltb own other || (eqb other own && ltb j i))
+larger_tied own other j i h = grind (arith, nat_tests)
+
+pub larger_else : (own other j i : ℕ) → other ≤ own → (other ≡ own → ⊥) → eqb other own ≡ (ltb own other || (eqb other own && ltb j i))
+larger_else own other j i h ne = grind (arith, nat_tests)
+
+-- one more number, which passes a test or not
+pub counted : (test : ℕ → Bool) (n before after : ℕ) (b : Bool) → test n ≡ b → before ≡ count_below test n → after ≡ before + one_if b → after ≡ count_below test (n + 1)
+counted test n before after b h e f = omega (arith, count_below-add_one test n, ap one_if h)
+
+-- a write behind a front that agrees with a function lengthens it
+pub set_more : (xs : List ℕ) (i v : ℕ) (f : ℕ → ℕ) → i < length xs → ((k : ℕ) → k < i → get_or xs k 0 ≡ f k) → v ≡ f i → (k : ℕ) → k < i + 1 → get_or (set xs i v) k 0 ≡ f k
+set_more xs i v f l h e =
+    below_more (λ k. get_or (set xs i v) k 0 ≡ f k) i
+    (λ k b. let ne : k ≢ i = omega arith in get_or-set_other xs i k v 0 ne ∙ h k b)
+    (get_or-set_same xs i v 0 l ∙ e)
+
+-- ... and leaves what stands behind it
+pub set_later : (xs : List ℕ) (i v k : ℕ) → i + 1 ≤ k → get_or (set xs i v) k 0 ≡ get_or xs k 0
+set_later xs i v k h = let ne : k ≢ i = omega arith in get_or-set_other xs i k v 0 ne
+
+-- the remainders of a split go first as the proposals do
+pub among_first-read : (points remainders : List ℕ) (i : ℕ) → length remainders ≡ length points → i < length points →
+    ((k : ℕ) → k < length points → get_or remainders k 0 ≡ remainder_at points k) →
+    is_among_first remainders (left_over points) i ≡ ltb (count_below (λ j. comes_before points j i) (length points)) (left_over points)
+unfolding is_among_first comes_before
+among_first-read points remainders i same l h =
+    let n = length points in
+    let each = count_below-same (λ j. goes_before remainders j i) (λ j. comes_before points j i) n
+    (λ j jl. ap (λ x. ltb (get_or remainders i 0) x || (eqb x (get_or remainders i 0) && ltb j i)) (h j jl)
+    ∙ ap (λ x. ltb x (remainder_at points j) || (eqb (remainder_at points j) x && ltb j i)) (h i l)) in
+    ap (λ c. ltb c (left_over points)) (ap (count_below (λ j. goes_before remainders j i)) same ∙ each)
+
+-- a base with what is left over for it are the cents
+pub cents-from : (points remainders : List ℕ) (i base left : ℕ) → length remainders ≡ length points → i < length points →
+    ((k : ℕ) → k < length points → get_or remainders k 0 ≡ remainder_at points k) →
+    base ≡ base_at points i → left ≡ left_over points → base + extra_at remainders left i ≡ cents_at points i
+unfolding cents_at
+cents-from points remainders i base left same l h is e =
+    ap (λ b. b + extra_at remainders left i) is
+    ∙ (ap (λ n. base_at points i + extra_at remainders n i) e
+    ∙ ap (λ b. base_at points i + one_if b) (among_first-read points remainders i same l h))
+
+-- the cents of a split sum to the dollar
+pub cents-whole : (points cents : List ℕ) → length points ≡ length cents → 1 ≤ length points →
+    ((i : ℕ) → i < length points → get_or cents i 0 ≡ cents_at points i) → sum cents ≡ DOLLAR
+cents-whole points cents same some h =
+    let n = length points in
+    sym (sum_below-items cents)
+    ∙ (ap (sum_below (λ i. get_or cents i 0)) (sym same)
+    ∙ (sum_below-same (λ i. get_or cents i 0) (cents_at points) n h ∙ cents-sum points some))

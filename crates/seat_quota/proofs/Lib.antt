@@ -1,0 +1,5 @@
+pub mod ExchangeLemmas
+pub mod GivenLemmas
+pub mod SixLemmas
+pub mod TallyLemmas
+pub mod TotalLemmas

@@ -1,0 +1,9 @@
+use Rattle.std.proofs.Common.{sym, ◌∙◌}
+use Rattle.seat_quota.proofs.SixLemmas.{six-assigned}
+use Rattle.seat_quota.proofs.tests.one_review_moves_its_dollar.Goals as goal
+
+pub set_up-requires-clause-side : goal.set_up-requires-clause-side
+set_up-requires-clause-side g c = c.in_ok-pairs.ensures.side ∙ sym c.in_ok-plan.ensures.size
+
+pub set_up-requires-clause-valid : goal.set_up-requires-clause-valid
+set_up-requires-clause-valid g c = six-assigned c.in_ok-plan.plan c.in_ok-pairs.field-0 c.in_ok-plan.ensures.value c.in_ok-pairs.ensures.cells

@@ -1,0 +1,63 @@
+//! The proposals of one person, and the cents that they get from it.
+
+ghost use Rattle.std.specs.Prelude.{◌≡◌, ℕ, ◌+◌, ◌^◌, ◌<◌, ◌≤◌, length, map, slice_index, IfOk};
+ghost use Rattle.house_base.specs.Grid.{cell};
+ghost use Rattle.house_model.specs.Split.{cents_at};
+ghost use Rattle.review_desk.specs.Desk.{points_at};
+ghost use Rattle.seat_quota.specs.Totals.{IsRow, found_in, row_among};
+
+use dollar_split::split;
+use house_base::limits::{MOST_OWN, MOST_REVIEWS};
+use house_base::{Grid, Memory};
+use review_desk::Desk;
+use std::alloc::Global;
+
+/// The most proposals of one person.
+pub(crate) const MOST_ROW: usize = MOST_REVIEWS as usize * MOST_OWN as usize;
+
+/// The proposals of a person, in the order of rising distance.
+pub(crate) fn row(alloc: Global, pairs: &Grid, reviewer: u32) -> Result<Vec<u32>, Memory>
+    requires { reviewer < pairs.now.side }
+    ensures { IfOk result (λ proposals. proposals.items ≡ row_among pairs.now.side (cell pairs.now) reviewer) }
+{
+    let side = pairs.side();
+    let mut row = Vec::new(alloc);
+    for distance in 0..side {
+        let proposal = (reviewer + 1 + distance) % side;
+        if pairs.get(reviewer, proposal) {
+            row.push(proposal)?;
+        }
+    }
+    Ok(row)
+}
+
+/// The cents that a person gives the proposals of its row, in their order.
+pub(crate) fn row_cents(desk: &Desk, reviewer: u32, row: &[u32]) -> [u32; MOST_ROW]
+    requires reviewer { reviewer < desk.now.pairs.side }
+    requires row { IsRow desk.now.pairs.side row.now }
+    requires some { 1 ≤ length row.now }
+    ensures room { length row.now ≤ length result }
+    ensures value { (i : ℕ) → i < length row.now → slice_index result i
+        ≡ cents_at (map (points_at desk.now reviewer) row.now) i }
+{
+    let mut points = [0; MOST_ROW];
+    for i in 0..row.len() {
+        points[i] = desk.points(reviewer, row[i]);
+    }
+    let mut cents = [0; MOST_ROW];
+    split(&points[..row.len()], &mut cents[..row.len()]);
+    cents
+}
+
+/// Adds the cents of each proposal of a row to its score.
+pub(crate) fn give(row: &[u32], cents: &[u32], scores: &mut [u64])
+    requires row { IsRow (length scores.old) row.now }
+    requires cents { length row.now ≤ length cents.now }
+    requires most { (p : ℕ) → p < length scores.old → slice_index scores.old p < 2 ^ 63 }
+    ensures { (p : ℕ) → p < length scores.old → slice_index scores.new p
+        ≡ slice_index scores.old p + found_in cents.now row.now p }
+{
+    for i in 0..row.len() {
+        scores[row[i] as usize] += u64::from(cents[i]);
+    }
+}

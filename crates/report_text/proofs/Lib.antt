@@ -1,0 +1,2 @@
+mod RowLineLemmas
+mod WrittenLemmas

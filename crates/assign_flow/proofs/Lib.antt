@@ -1,0 +1,11 @@
+pub mod CapacityLemmas
+pub mod CountLemmas
+pub mod DemandLemmas
+pub mod DraftLemmas
+pub mod FlowLemmas
+pub mod RerouteLemmas
+pub mod SettleLemmas
+pub mod ShortageLemmas
+pub mod SquareLemmas
+pub mod TreeLemmas
+pub mod WalkLemmas

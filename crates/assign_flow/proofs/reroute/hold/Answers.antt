@@ -1,0 +1,13 @@
+use Rattle.std.proofs.Common.{sym, refl, ◌∙◌}
+use Rattle.house_base.specs.Grid.{cell}
+use Rattle.assign_flow.proofs.RerouteLemmas.{changes-none}
+use Rattle.assign_flow.proofs.reroute.hold.Goals as goal
+
+pub returns-then-get-clause-rerouted : goal.returns-then-get-clause-rerouted
+returns-then-get-clause-rerouted c = λ e. record {
+  holds = sym c.get.ensures ∙ c.if-get.true;
+  reviewers = λ r l. refl;
+  proposals = λ p l. refl;
+  others = λ r p l k f. refl;
+  few = changes-none _ (cell c.args.held.now);
+}

@@ -1,0 +1,17 @@
+//! Pairs that meet all needs and rooms, by augmenting paths, or the shortage that shows that there are none; and
+//! pairs that are settled one by one, by rerouting the others.
+#![tactic(auto)]
+
+mod draft;
+mod flow;
+mod reroute;
+mod search;
+mod solving;
+mod squares;
+mod walk;
+
+pub use flow::{Flow, Started};
+pub use solving::{Solved, solve};
+
+#[cfg(test)]
+mod tests;

@@ -1,0 +1,8 @@
+use Rattle.std.proofs.Common.{refl}
+use Rattle.house_model.specs.Profile.{is_valid}
+use Rattle.house_model.specs.Shortage.{is_met}
+use Rattle.cut_gap.proofs.laws.valid_assignments_meet_all.Goals as goal
+
+pub returns : goal.returns
+unfolding is_valid is_met
+returns c = λ s pairs. refl

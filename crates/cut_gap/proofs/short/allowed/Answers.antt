@@ -1,0 +1,22 @@
+use Rattle.std.proofs.Common.{ℕ, cond, ◌&&◌, sym, ◌∙◌, arith}
+use Rattle.house_base.specs.Grid.{cell}
+use Rattle.house_model.specs.Counting.{count_below}
+use Rattle.house_model.proofs.CountingLemmas.{sum_below-zero}
+use Rattle.cut_gap.proofs.CutLemmas.{sum_in-takes, sum_in-skips}
+use Rattle.cut_gap.specs.Cut.{marked}
+use Rattle.cut_gap.proofs.short.allowed.Goals as goal
+use Rattle.cut_gap.proofs.short.allowed.Goals.{then-has_reviewer, else-has_reviewer}
+
+pub loop-reviewer-init : goal.loop-reviewer-init
+loop-reviewer-init c =
+    let to = λ (r : ℕ). count_below (λ p. marked c.args.cut.now.proposals p && cell c.args.may.now r p) c.args.may.now.side in
+    record { summed = sym (sum_below-zero (λ r. cond (marked c.args.cut.now.reviewers r) (to r) 0)); most = omega arith }
+
+pub loop-reviewer-preserved : goal.loop-reviewer-preserved
+loop-reviewer-preserved c =
+    let set = marked c.args.cut.now.reviewers in
+    let to = λ (r : ℕ). count_below (λ p. marked c.args.cut.now.proposals p && cell c.args.may.now r p) c.args.may.now.side in
+    elim c.if-has_reviewer.branch [
+      | then-has_reviewer w ↦ record { summed = omega (arith, c.loop-reviewer.invariant.summed, sum_in-takes set to c.loop-reviewer.reviewer (sym c.has_reviewer.ensures ∙ w.if-has_reviewer.true)); most = omega arith }
+      | else-has_reviewer w ↦ record { summed = omega (arith, c.loop-reviewer.invariant.summed, sum_in-skips set to c.loop-reviewer.reviewer (sym c.has_reviewer.ensures ∙ w.if-has_reviewer.false)); most = omega arith }
+    ]

@@ -1,7 +1,7 @@
 use Rattle.std.proofs.Common.{◌≡◌, ◌≢◌, ℕ, ◌<◌, ◌≤◌, ◌+◌, ◌-◌, ◌^◌, [], ◌∷◌, ◌++◌, length, refl, sym, ap, ◌∙◌, arith, Option, Some, None, length-append}
 use Rattle.house_base.specs.Answer.{raised}
 use Rattle.house_base.specs.declared.answer.Reason.{Reason}
-use Rattle.house_base.specs.declared.answer.Took.TheVariants as took
+use Rattle.house_base.specs.declared.answer.Took.{Took}
 use Rattle.house_model.specs.declared.goal.Goal.{Goal}
 use Rattle.house_model.specs.Text.{Text, Lines}
 use Rattle.house_model.specs.Ending.{in_force, stop_of}
@@ -64,15 +64,15 @@ stands_refused g lines x h r is none refused =
     }
 
 -- what the step that refuses it says
-pub step_refused : (g : Goal) (lines : Lines) (x : Text) (h : Standing) (r : Reason) → StandsFor g lines h → h.stop ≡ None → length lines < 2 ^ 64 - 1 →
-    refusal g lines x ≡ Some r → IsStep (stop_of (refusal g) (lines ++ x ∷ [])) (step.Refused (raised h.lines) r)
-step_refused g lines x h r is none few refused =
+pub step_refused : (g : Goal) (lines : Lines) (x : Text) (h : Standing) (r : Reason) (t : Took) → StandsFor g lines h → h.stop ≡ None → length lines < 2 ^ 64 - 1 →
+    refusal g lines x ≡ Some r → IsStep (stop_of (refusal g) (lines ++ x ∷ [])) t (step.Refused (raised h.lines) r)
+step_refused g lines x h r t is none few refused =
     rw (stop_at (refusal g) lines x r (going g lines h is none) refused)
     (ap raised (going_count g lines h is none) ∙ raised_below _ few, refl)
 
-pub step_going : (g : Goal) (lines : Lines) (x : Text) (h : Standing) → StandsFor g lines h → h.stop ≡ None →
-    refusal g lines x ≡ None → IsStep (stop_of (refusal g) (lines ++ x ∷ [])) (step.Going took.Kept)
-step_going g lines x h is none free = rw (stop_none (refusal g) lines x (going g lines h is none) free) tt
+pub step_going : (g : Goal) (lines : Lines) (x : Text) (h : Standing) (t answer : Took) → StandsFor g lines h → h.stop ≡ None →
+    refusal g lines x ≡ None → answer ≡ t → IsStep (stop_of (refusal g) (lines ++ x ∷ [])) t (step.Going answer)
+step_going g lines x h t answer is none free same = rw (stop_none (refusal g) lines x (going g lines h is none) free) same
 
 -- a house that has stopped
 pub stands_stopped : (g : Goal) (lines : Lines) (x : Text) (h : Standing) (s : Stop) → StandsFor g lines h → h.stop ≡ Some s → StandsFor g (lines ++ x ∷ []) h
@@ -87,18 +87,18 @@ stands_stopped g lines x h s is some = stays (stop_of (refusal g) lines) refl is
       says = rw (in_force_stays (refusal g) lines x at e) is.says;
     }
 
-pub step_stopped : (g : Goal) (lines : Lines) (x : Text) (h : Standing) (s : Stop) → StandsFor g lines h → h.stop ≡ Some s → length lines < 2 ^ 64 - 1 →
-    IsStep (stop_of (refusal g) (lines ++ x ∷ [])) (stopped_step h.lines s)
-step_stopped g lines x h s is some few = at_stop (stop_of (refusal g) lines) refl (rw some at is.stop)
+pub step_stopped : (g : Goal) (lines : Lines) (x : Text) (h : Standing) (s : Stop) (t : Took) → StandsFor g lines h → h.stop ≡ Some s → length lines < 2 ^ 64 - 1 →
+    IsStep (stop_of (refusal g) (lines ++ x ∷ [])) t (stopped_step h.lines s)
+step_stopped g lines x h s t is some few = at_stop (stop_of (refusal g) lines) refl (rw some at is.stop)
   where
     counted : (n m : ℕ) → n + 1 ≡ m → m ≤ length lines → raised n ≡ m
     counted n m e low = let n_small : n < 2 ^ 64 - 1 = omega arith in raised_below n n_small ∙ e
 
-    answer : (s : Stop) (at : ℕ × Reason) → stop_of (refusal g) lines ≡ Some at → IsStopAt s h.lines at → IsStep (Some at) (stopped_step h.lines s)
+    answer : (s : Stop) (at : ℕ × Reason) → stop_of (refusal g) lines ≡ Some at → IsStopAt s h.lines at → IsStep (Some at) t (stopped_step h.lines s)
     answer (stop.Refused r) at e q = (counted h.lines at.0 q.0 (stop_within (refusal g) lines at.0 at.1 e), q.1)
     answer stop.Memory at e q = absurd q
 
-    at_stop : (t : Option (ℕ × Reason)) → stop_of (refusal g) lines ≡ t → StopsAs (Some s) h.lines t → IsStep (stop_of (refusal g) (lines ++ x ∷ [])) (stopped_step h.lines s)
+    at_stop : (o : Option (ℕ × Reason)) → stop_of (refusal g) lines ≡ o → StopsAs (Some s) h.lines o → IsStep (stop_of (refusal g) (lines ++ x ∷ [])) t (stopped_step h.lines s)
     at_stop None e q = absurd q
     at_stop (Some at) e q = rw (stop_stays (refusal g) lines x at e) (answer s at e q)
 
@@ -108,12 +108,12 @@ pub stands_stop : (g : Goal) (lines : Lines) (x : Text) (h : Standing) (s : Stop
 stands_stop g lines x h (stop.Refused r) is none never refused = stands_refused g lines x h r is none (refused r refl)
 stands_stop g lines x h stop.Memory is none never refused = absurd (never refl)
 
-pub step_stop : (g : Goal) (lines : Lines) (x : Text) (h : Standing) (s : Stop) → StandsFor g lines h → h.stop ≡ None → length lines < 2 ^ 64 - 1 →
-    ((r : Reason) → s ≡ stop.Refused r → refusal g lines x ≡ Some r) → IsStep (stop_of (refusal g) (lines ++ x ∷ [])) (stopped_step h.lines s)
-step_stop g lines x h (stop.Refused r) is none few refused = step_refused g lines x h r is none few (refused r refl)
-step_stop g lines x h stop.Memory is none few refused = free (stop_of (refusal g) (lines ++ x ∷ []))
+pub step_stop : (g : Goal) (lines : Lines) (x : Text) (h : Standing) (s : Stop) (t : Took) → StandsFor g lines h → h.stop ≡ None → length lines < 2 ^ 64 - 1 →
+    ((r : Reason) → s ≡ stop.Refused r → refusal g lines x ≡ Some r) → IsStep (stop_of (refusal g) (lines ++ x ∷ [])) t (stopped_step h.lines s)
+step_stop g lines x h (stop.Refused r) t is none few refused = step_refused g lines x h r t is none few (refused r refl)
+step_stop g lines x h stop.Memory t is none few refused = free (stop_of (refusal g) (lines ++ x ∷ []))
   where
-    free : (t : Option (ℕ × Reason)) → IsStep t step.Memory
+    free : (o : Option (ℕ × Reason)) → IsStep o t step.Memory
     free None = tt
     free (Some at) = tt
 
@@ -124,3 +124,8 @@ not_memory s n never e = never (ap (stopped_step n) e)
 pub stands_nothing : (g : Goal) (s : State) → Says [] s → StandsFor g [] (record { goal = g; state = s; lines = 0; stop = None })
 unfolding in_force stop_of
 stands_nothing g s says = record { goal = refl; count = refl; stop = tt; says = says }
+
+-- a step that finds no memory is that of a stop that found none
+pub memory_step : (n : ℕ) (s : Stop) → stopped_step n s ≡ step.Memory → s ≡ stop.Memory
+memory_step n (stop.Refused r) h = cc
+memory_step n stop.Memory h = refl

@@ -1,4 +1,5 @@
-use Rattle.std.proofs.Common.{◌≡◌, ℕ, suc, ◌+◌, ◌-◌, ◌*◌, ◌%◌, ◌<◌, Bool, ◌&&◌, ◌||◌, cond, eqb, ltb, leb, min, List, [], ◌∷◌, ◌++◌, length, map, get_or, refl, ap, ◌∙◌, arith, filter, position}
+-- Profiles of one setting that agree on its places have one outcome.
+use Rattle.std.proofs.Common.{◌≡◌, ℕ, suc, ◌+◌, ◌-◌, ◌*◌, ◌%◌, ◌<◌, Bool, ◌&&◌, ◌||◌, cond, eqb, ltb, leb, min, List, [], ◌∷◌, length, map, get_or, refl, ap, ◌∙◌, arith, filter, position}
 use Rattle.std.specs.Option.{option_map_or}
 use Rattle.std.proofs.lemmas.List.{get_or-map, length-map}
 use Rattle.house_base.specs.Setting.{Setting, size, cluster_at}
@@ -7,21 +8,14 @@ use Rattle.house_model.specs.Split.{cents_at}
 use Rattle.house_model.specs.Profile.{Profile, Pairs, Points, row, row_points, cents, score, quota, cumulative_quota, cluster_size, rank}
 use Rattle.house_model.specs.Report.{place_of_number}
 use Rattle.house_model.proofs.CountingLemmas.{count_below-same, sum_below-same}
-use Rattle.house_core.specs.Outcome.{OutcomeParts, applicant_row, cluster_row, cluster_rows_of, applicant_rows_of, profile_on, outcome_text, outcome_of}
+use Rattle.house_model.specs.Report.{applicant_row, cluster_row, cluster_rows_of, applicant_rows_of, outcome_of}
+use Rattle.review_desk.specs.Desk.{profile_on}
 use Rattle.house_base.specs.declared.answer.Asides.{Asides}
 use Rattle.house_model.specs.Profile.{denominator, cluster_cents}
-use Rattle.house_model.specs.Lottery.{seats, filled, empty_seats, selected}
-use Rattle.house_model.specs.Report.{name_at, person_at, report_head, report_body}
-use Rattle.house_model.specs.Text.{Lines}
-use Rattle.house_model.specs.Said.{setting, draw_of, assigned}
-use Rattle.house_model.specs.Reviews.{asides_of, points_of, profile}
-use Rattle.house_model.specs.Transitional.{report_of}
+use Rattle.house_model.specs.Lottery.{seats, filled, empty_seats, selected, chance}
+use Rattle.house_model.specs.Report.{name_at, person_at}
 use Rattle.house_model.proofs.RowLemmas.{row-below}
-use Rattle.house_core.specs.Outcome.{IsOutcome}
-use Rattle.house_core.proofs.OutcomeLemmas.{parts_with, row_with, applicant_with}
-use Rattle.house_core.proofs.OutcomeTextLemmas.{outcome_text-of}
-
--- Profiles of one setting that agree on its places have one outcome.
+use Rattle.call_outcome.proofs.OutcomeLemmas.{parts_with, row_with, applicant_with}
 
 filter-same : (t u : ℕ → Bool) (xs : List ℕ) → ((k : ℕ) → k < length xs → t (get_or xs k 0) ≡ u (get_or xs k 0)) → filter t xs ≡ filter u xs
 filter-same t u [] h = refl
@@ -33,14 +27,7 @@ map-same : {A : Type 0} (f g : ℕ → A) (xs : List ℕ) → ((k : ℕ) → k <
 map-same f g [] h = refl
 map-same f g (x ∷ xs) h = ap (λ y. y ∷ map f xs) (h 0 (omega arith)) ∙ ap (λ ys. g x ∷ ys) (map-same f g xs (λ k l. h (suc k) (omega arith)))
 
--- two profiles of a setting that agree below its size
-pub record Agree (s : Setting) (f g : Profile) : Type 0 where
-  pub first : f.setting ≡ s
-  pub second : g.setting ≡ s
-  pub pairs : (r p : ℕ) → r < size s → p < size s → f.pairs r p ≡ g.pairs r p
-  pub points : (r p : ℕ) → r < size s → p < size s → f.points r p ≡ g.points r p
-
--- the same, where both have the setting itself
+-- pairs and points that agree below the size of a setting
 abbrev AgreeOn : Setting → Pairs → Points → Pairs → Points → Type 0
 AgreeOn s p q p' q' = ((r k : ℕ) → r < size s → k < size s → p r k ≡ p' r k) × ((r k : ℕ) → r < size s → k < size s → q r k ≡ q' r k)
 
@@ -130,14 +117,20 @@ selected-same s p q p' q' k v h =
     ap (λ x. leb x (seats (profile_on s p q) (cluster_at s k) v)) (rank-same s p q p' q' k h)
     ∙ ap (λ x. leb (rank (profile_on s p' q') k) x) (seats-same s p q p' q' (cluster_at s k) v h)
 
+chance-same : (s : Setting) (p : Pairs) (q : Points) (p' : Pairs) (q' : Points) (k : ℕ) → ScoreOne (profile_on s p q) (profile_on s p' q') → chance (profile_on s p q) k ≡ chance (profile_on s p' q') k
+unfolding chance
+chance-same s p q p' q' k h = count_below-same (selected (profile_on s p q) k) (selected (profile_on s p' q') k) (denominator s) (λ v l. selected-same s p q p' q' k v h)
+
 applicant_row-same : (s : Setting) (p : Pairs) (q : Points) (p' : Pairs) (q' : Points) (v k : ℕ) → ScoreOne (profile_on s p q) (profile_on s p' q') → applicant_row (profile_on s p q) v k ≡ applicant_row (profile_on s p' q') v k
 unfolding applicant_row
 applicant_row-same s p q p' q' v k h =
     let f = profile_on s p q in
     let g = profile_on s p' q' in
     let row = applicant_with (name_at s k) (person_at s k) (cluster_at s k) in
-    ap (λ x. row x (score f k) (selected f k v)) (rank-same s p q p' q' k h)
-    ∙ (ap (λ x. row (rank g k) x (selected f k v)) (h k) ∙ ap (λ x. row (rank g k) (score g k) x) (selected-same s p q p' q' k v h))
+    ap (λ x. row x (score f k) (chance f k) (selected f k v)) (rank-same s p q p' q' k h)
+    ∙ (ap (λ x. row (rank g k) x (chance f k) (selected f k v)) (h k)
+    ∙ (ap (λ x. row (rank g k) (score g k) x (selected f k v)) (chance-same s p q p' q' k h)
+    ∙ ap (λ x. row (rank g k) (score g k) (chance g k) x) (selected-same s p q p' q' k v h)))
 
 cluster_rows-same : (s : Setting) (p : Pairs) (q : Points) (p' : Pairs) (q' : Points) (v : ℕ) → ScoreOne (profile_on s p q) (profile_on s p' q') → cluster_rows_of (profile_on s p q) v ≡ cluster_rows_of (profile_on s p' q') v
 unfolding cluster_rows_of
@@ -163,22 +156,3 @@ outcome_of-same s p q p' q' a v hp hq =
     ap (λ x. parts x (applicant_rows_of f v) (empty_seats f v)) (cluster_rows-same s p q p' q' v h)
     ∙ (ap (λ x. parts (cluster_rows_of g v) x (empty_seats f v)) (applicant_rows-same s p q p' q' v h)
     ∙ ap (λ x. parts (cluster_rows_of g v) (applicant_rows_of g v) x) (empty-same s p q p' q' v h))
-
--- The outcome of lines, and its text.
-
-pub outcome_is : (lines : Lines) (o : OutcomeParts) → IsOutcome lines o → o ≡ outcome_of (profile lines) (asides_of lines) (draw_of lines)
-unfolding profile
-outcome_is lines o is =
-    is.value
-    ∙ (ap (λ s. outcome_of (profile_on s is.own.pairs is.own.points) (asides_of lines) (draw_of lines)) is.same_setting
-    ∙ outcome_of-same (setting lines) is.own.pairs is.own.points (assigned lines) (points_of lines) (asides_of lines) (draw_of lines) is.pairs is.points)
-
--- the text of the outcome of lines is their report
-pub outcome_report : (lines : Lines) (o : OutcomeParts) → IsOutcome lines o → outcome_text o ≡ report_of lines
-unfolding profile report_of
-outcome_report lines o is = ap outcome_text (outcome_is lines o is) ∙ outcome_text-of (profile lines) (asides_of lines) (draw_of lines) is.valid
-
--- ... and begins with the report's head
-pub outcome_begins : (lines : Lines) (o : OutcomeParts) → IsOutcome lines o → (rest : List ℕ) × (outcome_text o ≡ report_head (setting lines) (asides_of lines) (draw_of lines) ++ rest)
-unfolding profile report_of
-outcome_begins lines o is = (report_body (λ f place. []) (profile lines) (draw_of lines), outcome_report lines o is)

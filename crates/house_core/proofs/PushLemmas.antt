@@ -1,3 +1,4 @@
+-- What a list of lines says with one more line.
 use Rattle.std.proofs.Common.{◌≡◌, ℕ, Bool, true, false, cond, eqb, Option, Some, None, [], ◌∷◌, ◌++◌, map, refl, ap, ◌∙◌}
 use Rattle.std.specs.Prelude.{filter, find, not, ◌||◌, if◌then◌else◌}
 use Rattle.std.specs.List.{list_any}
@@ -10,8 +11,9 @@ use Rattle.house_base.specs.declared.phase.Phase.{Phase}
 use Rattle.house_base.specs.declared.phase.Phase.TheVariants as phase
 use Rattle.house_model.specs.declared.verb.Verb.{Verb}
 use Rattle.house_model.specs.declared.verb.Verb.TheVariants as verb
+use Rattle.house_model.specs.declared.goal.Goal.TheVariants as goal
 use Rattle.house_model.specs.Text.{Text, Lines, word}
-use Rattle.house_model.specs.Verbs.{verb_in, verb_number, commands, is_review}
+use Rattle.house_model.specs.Verbs.{verb_in, verb_number, commands}
 use Rattle.house_model.specs.Register.{Register}
 use Rattle.house_model.specs.Said.{has, those, number, phase_after, call_number, applicant_in, place_in, pair_in, register, draw_of, setting, assigned}
 use Rattle.house_core.proofs.VerbLemmas.{commands_is}
@@ -162,14 +164,11 @@ unfolding phase_after
 phase_other v lines x h a c d l =
     rw (has_other v verb.Assign lines x h a, has_other v verb.Close lines x h c, has_other v verb.Draw lines x h d, has_other v verb.Lottery lines x h l) refl
 
-pub no_review_more : (lines : Lines) (x : Text) → list_any is_review lines ≡ false → is_review x ≡ false → list_any is_review (lines ++ x ∷ []) ≡ false
-no_review_more lines x none h = list_any-append is_review lines (x ∷ []) ∙ rw (none, h) refl
-
 -- what the setting and the assignment are read from
 pub setting_same : (old new : Lines) → ((i : ℕ) → call_number new i ≡ call_number old i) → register new ≡ register old → setting new ≡ setting old
 unfolding setting
 setting_same old new numbers reg = rw (numbers 1, numbers 2, numbers 3, reg) refl
 
-pub assigned_same : (old new : Lines) → register new ≡ register old → setting new ≡ setting old → assigned new ≡ assigned old
+pub assigned_same : (old new : Lines) → register new ≡ register old → setting new ≡ setting old → assigned goal.Run new ≡ assigned goal.Run old
 unfolding assigned
 assigned_same old new reg plan = rw (reg, plan) refl

@@ -1,77 +1,231 @@
-use Rattle.std.proofs.Common.{◌≡◌, ℕ, Bool, true, false, eqb, Some, None, Ok, List, [], ◌∷◌, ◌++◌, length, refl, sym, ap, ◌∙◌, subst}
-use Rattle.std.specs.Prelude.{is_none, not, ◌||◌, ◌==◌, if◌then◌else◌}
-use Rattle.std.proofs.lemmas.Bool.{true≢false}
+-- What the state says, from the first line on.
+use Rattle.std.proofs.Common.{◌≡◌, ℕ, ◌<◌, Bool, true, false, eqb, Option, Some, None, List, [], ◌∷◌, ◌++◌, length, refl, sym, ap, ◌∙◌, subst, arith}
+use Rattle.std.specs.Prelude.{IfSome, IsSome, MatchOption, not, ◌||◌, ◌&&◌, if◌then◌else◌}
+use Rattle.std.specs.List.{list_any}
+use Rattle.std.specs.Option.{option_map_or, is_none, is_some}
+use Rattle.std.specs.Str.{bytes_eq}
+use Rattle.std.proofs.lemmas.Bool.{true≢false, and_right}
+use Rattle.std.proofs.lemmas.List.Folds.{list_any-append}
+use Rattle.house_base.specs.Answer.{counted}
+use Rattle.house_base.specs.Grid.{Square, cell}
+use Rattle.house_base.specs.Setting.{Setting, IsSetting, size}
+use Rattle.house_base.specs.declared.answer.Asides.{Asides}
+use Rattle.house_base.specs.declared.answer.Kind.{Kind}
+use Rattle.house_base.specs.declared.answer.Kind.TheVariants as kind
+use Rattle.house_base.specs.declared.answer.Took.{Took}
+use Rattle.house_base.specs.declared.answer.Took.TheVariants as took
+use Rattle.house_base.specs.declared.review.ReviewLine.{ReviewLine}
+use Rattle.house_base.specs.declared.answer.Reason.TheVariants as reason
 use Rattle.house_base.specs.declared.call.Call.{Call}
+use Rattle.house_base.specs.declared.phase.Phase.{Phase}
 use Rattle.house_base.specs.declared.phase.Phase.TheVariants as phase
+use Rattle.house_model.specs.declared.command.Command.{Command}
+use Rattle.house_model.specs.declared.command.Command.TheVariants as command
 use Rattle.house_model.specs.declared.goal.Goal.TheVariants as goal
 use Rattle.house_model.specs.declared.verb.Verb.{Verb}
 use Rattle.house_model.specs.declared.verb.Verb.TheVariants as verb
-use Rattle.house_model.specs.Profile.{is_valid}
+use Rattle.house_model.specs.Commands.{verb_of_command}
+use Rattle.house_model.specs.Profile.{Pairs, Points, is_valid}
 use Rattle.house_model.specs.Text.{Text, Lines, word, is_blank}
 use Rattle.house_model.specs.Verbs.{verb_in, verb_number, allows, is_review}
-use Rattle.house_model.specs.Register.{Register, all_placed, name_pair}
-use Rattle.house_model.specs.Said.{has, those, register, draw_of, phase_after, number, setting, assigned, applicant_in}
+use Rattle.house_model.specs.Register.{Register, IsRegister, all_placed, pair_among}
+use Rattle.house_model.specs.Said.{has, those, register, draw_of, phase_after, number, setting, assigned, applicant_in, place_in, pair_in}
+use Rattle.house_model.specs.Reviews.{kind_of, first_of_kinds, asides_of, points_of, no_asides}
 use Rattle.house_model.specs.Transitional.{refusal}
-use Rattle.house_core.specs.declared.command.Command.{Command}
-use Rattle.house_core.specs.declared.command.Command.TheVariants as command
+use Rattle.review_desk.specs.Desk.{points_at}
+use Rattle.review_desk.specs.Line.{kind_before, kind_among, points_after, took_as, reviewer_of, proposal_of, points_in}
+use Rattle.seat_quota.specs.Tally.{IsTally}
+use Rattle.command_text.specs.Reading.{Carries, IsCommandLine, review_in}
 use Rattle.house_core.specs.declared.state.Round.{Round}
 use Rattle.house_core.specs.declared.state.State.{State}
-use Rattle.house_core.specs.Reading.{IsHouseLine, IsRead, argument}
-use Rattle.house_core.specs.Standing.{Says, HoldsPairs, admitted, is_late, Becomes, setting_in}
-use Rattle.house_core.proofs.VerbLemmas.{blank_other, blank_not_review, line_verb, line_word}
-use Rattle.house_core.proofs.PushLemmas.{has_other, has_same, call_number_first, draw_of_other, draw_of_first, register_other, register_applicant, register_place, register_pair, phase_other, no_review_more}
-use Rattle.house_core.proofs.RefusalLemmas.{blank_not_refused}
+use Rattle.house_core.specs.Standing.{Says, HoldsPairs, IsRoundOf, IsRoundAfter, IsState, LooksAt, Reviews, Becomes, took_of, counted_as, kind_at, IsBarredMore, IsSameRegister, own_reason, turned_away, setting_in, pairs_in}
+use Rattle.house_core.proofs.VerbLemmas.{blank_other, blank_not_review, review_other}
+use Rattle.house_core.proofs.PushLemmas.{has_other, has_same, call_number_first, draw_of_other, draw_of_first, register_other, register_applicant, register_place, register_pair, register_conflict, phase_other}
+use Rattle.house_core.proofs.RefusalLemmas.{house_is_no_review}
 use Rattle.house_core.proofs.AdmittedLemmas.{IsAdmitted, is_admitted}
-use Rattle.house_core.proofs.LateLemmas.{came, person_in, setting_is, pairs_are, not_late_not_refused}
-use Rattle.house_core.proofs.StepLemmas.{no_call_before, before_assign, before_close, before_draw, still_none, stays_after, stays_before, call_kept, round_none, round_kept, setting_kept, assigned_kept, phase_assigned, phase_closed, phase_drawn}
+use Rattle.house_core.proofs.OwnLemmas.{came, setting_is, pairs_are, read_refusal}
+use Rattle.house_core.proofs.ReviewLemmas.{asides-push, kept-opening, points-none, points-same, setting-review, assigned-review, has-review}
+use Rattle.house_core.proofs.ReviewKindLemmas.{HoldsAssigned, kind-by_names, kind-by_phase}
+use Rattle.house_core.proofs.ReviewPointLemmas.{points-review}
+use Rattle.house_core.proofs.SameRegisterLemmas.{formed-same}
+use Rattle.house_core.proofs.StepLemmas.{HasRound, round_stays, no_call_before, before_assign, before_close, before_draw, still_none, stays_after, stays_before, call_kept, round_none, round_kept, setting_kept, assigned_kept, phase_assigned, phase_closed, phase_drawn}
 
--- What the state says, from the first line on.
+-- a register that is the given one, or that has one more of what the given one has
+same_register : (reg : Register) → IsSameRegister reg reg
+same_register reg = record { others = refl; barred = λ a b. refl }
+
+-- the register behind a line that puts nothing on record
+book_kept : (lines : Lines) (s : State) (x : Text) → Says lines s → register (lines ++ x ∷ []) ≡ register lines → IsSameRegister s.book (register (lines ++ x ∷ []))
+book_kept lines s x h same = rw same h.book
+
+-- what was set aside before a line that is no review line
+asides_kept : (lines : Lines) (s : State) (x : Text) → Says lines s → is_review x ≡ false → s.asides ≡ asides_of goal.Run (lines ++ x ∷ [])
+asides_kept lines s x h plain =
+    h.asides ∙ sym (asides-push goal.Run lines x
+    ∙ ap (λ b. if b then option_map_or (counted (asides_of goal.Run lines)) (kind_of goal.Run lines x) (asides_of goal.Run lines) else asides_of goal.Run lines) plain)
 
 -- no lines say nothing
-pub says_nothing : (s : State) → s.phase ≡ phase.Opening → s.call ≡ None → s.book ≡ record { applicants = []; placed = []; barred = []; pairs = [] } → s.round ≡ None → s.draw ≡ 0 → Says [] s
-unfolding has phase_after register draw_of those
-says_nothing s p c b r d = record {
+pub says_nothing : (s : State) → s.phase ≡ phase.Opening → s.call ≡ None → s.book ≡ record { applicants = []; placed = []; barred = []; pairs = [] } → s.round ≡ None → s.asides ≡ no_asides → s.draw ≡ 0 → Says [] s
+unfolding has phase_after register draw_of those asides_of
+says_nothing s p c b r a d = record {
   phase = p;
   call = rw c refl;
-  book = b;
+  book = rw b (same_register _);
   round = rw r refl;
+  asides = a;
   draw = d;
   no_place_before_call = λ h. refl;
   close_after_assign = λ h. absurd (true≢false (sym h));
   draw_after_close = λ h. absurd (true≢false (sym h));
-  no_conflict = refl;
   no_partition = refl;
   no_seal = refl;
   no_lottery = refl;
-  no_review = refl;
 }
 
 -- a line with no command of its own
-other_says : (lines : Lines) (s : State) (x : Text) → Says lines s → verb_in x ≡ verb.Other → is_review x ≡ false → Says (lines ++ x ∷ []) s
-other_says lines s x h v plain = record {
+other_says : (lines : Lines) (s : State) (x : Text) (asides : Asides) (round : Option Round) → Says lines s → verb_in x ≡ verb.Other →
+    asides ≡ asides_of goal.Run (lines ++ x ∷ []) → HasRound (lines ++ x ∷ []) round → Says (lines ++ x ∷ []) (record s { asides = asides; round = round })
+other_says lines s x asides round h v is_asides is_round = record {
   phase = h.phase ∙ sym (phase_other verb.Other lines x v refl refl refl refl);
   call = call_kept verb.Other lines x s.call v refl h.call;
-  book = h.book ∙ sym (register_other verb.Other lines x v refl refl refl refl);
-  round = round_kept verb.Other lines x s.round v refl refl refl refl refl refl h.round;
+  book = book_kept lines s x h (register_other verb.Other lines x v refl refl refl refl);
+  round = is_round;
+  asides = is_asides;
   draw = h.draw ∙ sym (draw_of_other verb.Other lines x v refl);
   no_place_before_call = stays_before verb.Other verb.Call verb.Place lines x v refl refl h.no_place_before_call;
   close_after_assign = stays_after verb.Other verb.Close verb.Assign lines x v refl refl h.close_after_assign;
   draw_after_close = stays_after verb.Other verb.Draw verb.Close lines x v refl refl h.draw_after_close;
-  no_conflict = still_none verb.Other verb.Conflict lines x v refl h.no_conflict;
   no_partition = still_none verb.Other verb.Partition lines x v refl h.no_partition;
   no_seal = still_none verb.Other verb.Seal lines x v refl h.no_seal;
   no_lottery = still_none verb.Other verb.Lottery lines x v refl h.no_lottery;
-  no_review = no_review_more lines x h.no_review plain;
 }
 
 -- a blank line changes nothing
-pub blank_says : (lines : Lines) (s : State) (x : Text) → Says lines s → is_blank x ≡ true → (refusal goal.Run lines x ≡ None) × Says (lines ++ x ∷ []) s
-blank_says lines s x h blank = (blank_not_refused lines x blank, other_says lines s x h (blank_other x blank) (blank_not_review x blank))
+pub blank_says : (lines : Lines) (s : State) (x : Text) → Says lines s → is_blank x ≡ true → Says (lines ++ x ∷ []) s
+blank_says lines s x h blank =
+    let plain = blank_not_review x blank in
+    other_says lines s x s.asides s.round h (blank_other x blank) (asides_kept lines s x h plain)
+    (round_kept verb.Other lines x s.round (blank_other x blank) plain refl refl refl refl refl refl h.round)
+
+pub blank_kept : (lines : Lines) (x : Text) → is_blank x ≡ true → took.Kept ≡ took_of lines x
+blank_kept lines x blank = ap (λ b. if b then took_as (kind_of goal.Run lines x) else took.Kept) (sym (blank_not_review x blank))
+
+-- A review line.
+
+-- the counts behind it
+asides_review : (lines : Lines) (x : Text) (asides : Asides) (found : Option Kind) → is_review x ≡ true → asides ≡ asides_of goal.Run lines → kind_of goal.Run lines x ≡ found →
+    counted_as asides found ≡ asides_of goal.Run (lines ++ x ∷ [])
+asides_review lines x asides found review is_asides is_found =
+    ap (λ a. option_map_or (counted a) found a) is_asides
+    ∙ ap (λ o. option_map_or (counted (asides_of goal.Run lines)) o (asides_of goal.Run lines)) (sym is_found)
+    ∙ sym (asides-push goal.Run lines x
+    ∙ ap (λ b. if b then option_map_or (counted (asides_of goal.Run lines)) (kind_of goal.Run lines x) (asides_of goal.Run lines) else asides_of goal.Run lines) review)
+
+took_review : (lines : Lines) (x : Text) (found : Option Kind) → is_review x ≡ true → kind_of goal.Run lines x ≡ found → took_as found ≡ took_of lines x
+took_review lines x found review is_found =
+    ap took_as (sym is_found) ∙ ap (λ b. if b then took_as (kind_of goal.Run lines x) else took.Kept) (sym review)
+
+-- points that agree on a pair agree on it behind a line
+points_after-at : (s : Setting) (pairs : Pairs) (p q : Points) (line : ReviewLine) (a b : ℕ) → p a b ≡ q a b → points_after s pairs p line a b ≡ points_after s pairs q line a b
+unfolding points_after
+points_after-at s pairs p q line a b same =
+    ap (λ n. if is_none (kind_among s pairs line) && (eqb a (reviewer_of s line) && eqb b (proposal_of s line)) then points_in line else n) same
+
+-- a round behind a line that is not kept
+round_aside : (lines : Lines) (x : Text) (round : Option Round) (k : Kind) → is_review x ≡ true → kind_of goal.Run lines x ≡ Some k → HasRound lines round → HasRound (lines ++ x ∷ []) round
+round_aside lines x round k review is_kind said =
+    round_stays lines (lines ++ x ∷ []) round (has-review verb.Assign lines x review refl) (setting-review lines x review) (assigned-review lines x review)
+    (λ r p. points-same lines x r p (ap (λ o. is_review x && is_none o) is_kind ∙ and_right (is_review x) false refl) (setting-review lines x review)) said
+
+module _ (lines : Lines) (s : State) (x : Text) (answer : Took) (new : State) (says : Says lines s) (state : IsState s) (review : is_review x ≡ true) where
+  abbrev after : Lines
+  after = lines ++ x ∷ []
+
+  -- the points behind a line that the desk of a round looks at
+  looked_points : (r : Round) → IsRoundOf lines r → (r' : Round) → IsRoundAfter r r' (review_in x) → HoldsAssigned lines r.tally.desk.pairs → kind_before (phase_after lines) (review_in x) ≡ None →
+      (a b : ℕ) → a < size (setting lines) → b < size (setting lines) → points_at r'.tally.desk a b ≡ points_of after a b
+  looked_points r said r' more holds before a b al bl =
+      let within : size (setting lines) ≡ size r.plan = ap size (sym said.plan) in
+      let square = r.tally.desk.pairs in
+      more.points a b (omega (arith, within)) (omega (arith, within))
+      ∙ ap (λ plan. points_after plan (cell square) (points_at r.tally.desk) (review_in x) a b) said.plan
+      ∙ points_after-at (setting lines) (cell square) (points_at r.tally.desk) (points_of lines) (review_in x) a b (said.points a b al bl)
+      ∙ sym (points-review lines x square a b holds review before bl)
+
+  -- where the desk of a round looks at the line
+  looked : (r : Round) → IsRoundOf lines r → IsTally r.plan r.tally → IsRegister s.book → kind_before (phase_after lines) (review_in x) ≡ None → LooksAt (Some r) s (review_in x) answer new →
+      (answer ≡ took_of lines x) × Says after new
+  looked r said tally registered before looks =
+      let holds : HoldsAssigned lines r.tally.desk.pairs = record {
+        formed = formed-same s.book (register lines) says.book registered.names_formed;
+        is_setting = subst IsSetting said.plan tally.desk.setting;
+        pairs = said.pairs.cells;
+      } in
+      let square = r.tally.desk.pairs in
+      let found : kind_of goal.Run lines x ≡ kind_at r (review_in x) =
+      kind-by_names lines x square holds before ∙ ap (λ plan. kind_among plan (cell square) (review_in x)) (sym said.plan) in
+      let setting_is = setting-review lines x review in
+      let round_after : IsRoundOf after looks.0 = record {
+        fixed = has-review verb.Assign lines x review refl ∙ said.fixed;
+        plan = looks.1.plan ∙ said.plan ∙ sym setting_is;
+        pairs = rw (setting_is, assigned-review lines x review) (let P : Square → Type 0 = λ q. HoldsPairs (setting lines) (assigned goal.Run lines) q in subst P (sym looks.1.pairs) said.pairs);
+        valid = rw (setting_is, assigned-review lines x review) said.valid;
+        points = rw setting_is (λ a b al bl. looked_points r said looks.0 looks.1 holds before a b al bl);
+      } in (
+        looks.2 ∙ took_review lines x (kind_at r (review_in x)) review found,
+        subst (λ n. Says after n) (sym looks.3)
+            (other_says lines s x (counted_as s.asides (kind_at r (review_in x))) (Some looks.0) says (review_other x review)
+            (asides_review lines x s.asides (kind_at r (review_in x)) review says.asides found) round_after),
+      )
+
+  looked_by : (round : Option Round) → s.round ≡ round → kind_before (phase_after lines) (review_in x) ≡ None → LooksAt round s (review_in x) answer new →
+      (answer ≡ took_of lines x) × Says after new
+  looked_by None is before looks = absurd looks
+  looked_by (Some r) is before looks =
+      looked r (subst (HasRound lines) is says.round) (subst (λ o. IfSome o (λ r. IsTally r.plan r.tally)) is state.tallied)
+      (subst (λ o. IfSome o (λ r. IsRegister s.book)) is state.registered) before looks
+
+  reviewed : (found : Option Kind) → kind_before s.phase (review_in x) ≡ found →
+      MatchOption found (LooksAt s.round s (review_in x) answer new) (λ kind. (answer ≡ took.Aside kind) × (new ≡ record s { asides = counted s.asides kind })) →
+      (answer ≡ took_of lines x) × Says after new
+  reviewed None is looks = looked_by s.round refl (ap (λ p. kind_before p (review_in x)) (sym says.phase) ∙ is) looks
+  reviewed (Some k) is aside =
+      let found = kind-by_phase goal.Run lines x k (ap (λ p. kind_before p (review_in x)) (sym says.phase) ∙ is) in (
+        aside.0 ∙ took_review lines x (Some k) review found,
+        subst (λ n. Says after n) (sym aside.1)
+            (other_says lines s x (counted_as s.asides (Some k)) s.round says (review_other x review) (asides_review lines x s.asides (Some k) review says.asides found)
+            (round_aside lines x s.round k review found says.round)),
+      )
+
+  pub review_taken : Reviews s (review_in x) answer new → (answer ≡ took_of lines x) × Says after new
+  review_taken reviews = reviewed (kind_before s.phase (review_in x)) refl reviews
+
+-- a review line that is not too early comes behind an assignment
+pub before_opening : (line : ReviewLine) → kind_before phase.Opening line ≡ None → ⊥
+unfolding kind_before
+before_opening line h = early line.whole h where
+  early : (whole : Bool) → first_of_kinds ((kind.Form, not whole) ∷ (kind.Early, true) ∷ (kind.Late, false) ∷ []) ≡ None → ⊥
+  early true h = cc
+  early false h = cc
+
+-- a review line in time finds a round
+pub in_time : (s : State) (line : ReviewLine) → IsState s → kind_before s.phase line ≡ None → s.round ≡ None → ⊥
+in_time s line is early none = by_phase s.phase refl early where
+  unassigned : IsSome s.round → ⊥
+  unassigned some = let e : is_some s.round ≡ false = ap is_some none in cc
+
+  later : (p : Phase) → s.phase ≡ p → (p ≡ phase.Opening → ⊥) → ⊥
+  later p e never = unassigned (is.assigned (λ f. never (sym e ∙ f)))
+
+  by_phase : (p : Phase) → s.phase ≡ p → kind_before p line ≡ None → ⊥
+  by_phase phase.Opening e h = before_opening line h
+  by_phase phase.Reviewing e h = later phase.Reviewing e (λ f. cc)
+  by_phase phase.Closed e h = later phase.Closed e (λ f. cc)
+  by_phase phase.Drawn e h = later phase.Drawn e (λ f. cc)
 
 -- a command of the opening that may come more than once
 record IsOpening (v : Verb) : Type 0 where
   no_call : eqb (verb_number v) 0 ≡ false
-  no_conflict : eqb (verb_number v) 2 ≡ false
   no_partition : eqb (verb_number v) 4 ≡ false
   no_seal : eqb (verb_number v) 6 ≡ false
   no_assign : eqb (verb_number v) 7 ≡ false
@@ -84,7 +238,7 @@ record IsOpening (v : Verb) : Type 0 where
 
 -- such a command puts something on record
 opened_says : (v : Verb) (lines : Lines) (s : State) (x : Text) (book : Register) → Says lines s → IsAdmitted lines v → verb_in x ≡ v → is_review x ≡ false →
-    IsOpening v → book ≡ register (lines ++ x ∷ []) → (has verb.Call (lines ++ x ∷ []) ≡ false → has verb.Place (lines ++ x ∷ []) ≡ false) →
+    IsOpening v → IsSameRegister book (register (lines ++ x ∷ [])) → (has verb.Call (lines ++ x ∷ []) ≡ false → has verb.Place (lines ++ x ∷ []) ≡ false) →
     Says (lines ++ x ∷ []) (record s { book = book })
 opened_says v lines s x book h adm e plain k reg placed = record {
   phase = h.phase ∙ sym (phase_other v lines x e k.no_assign k.no_close k.no_draw k.no_lottery);
@@ -92,14 +246,13 @@ opened_says v lines s x book h adm e plain k reg placed = record {
   book = reg;
   round = round_none v lines x s.round e k.no_assign (before_assign lines v adm k.not_reviewing k.not_closed k.not_drawn) h.round;
   draw = h.draw ∙ sym (draw_of_other v lines x e k.no_draw);
+  asides = asides_kept lines s x h plain;
   no_place_before_call = placed;
   close_after_assign = stays_after v verb.Close verb.Assign lines x e k.no_close k.no_assign h.close_after_assign;
   draw_after_close = stays_after v verb.Draw verb.Close lines x e k.no_draw k.no_close h.draw_after_close;
-  no_conflict = still_none v verb.Conflict lines x e k.no_conflict h.no_conflict;
   no_partition = still_none v verb.Partition lines x e k.no_partition h.no_partition;
   no_seal = still_none v verb.Seal lines x e k.no_seal h.no_seal;
   no_lottery = still_none v verb.Lottery lines x e k.no_lottery h.no_lottery;
-  no_review = no_review_more lines x h.no_review plain;
 }
 
 -- a call
@@ -115,40 +268,45 @@ call_says lines s x call h adm e plain seats clusters reviews =
         clusters ∙ sym (call_number_first lines x 2 first e),
         reviews ∙ sym (call_number_first lines x 3 first e),
       );
-      book = h.book ∙ sym (register_other verb.Call lines x e refl refl refl refl);
+      book = book_kept lines s x h (register_other verb.Call lines x e refl refl refl refl);
       round = round_none verb.Call lines x s.round e refl (before_assign lines verb.Call adm refl refl refl) h.round;
       draw = h.draw ∙ sym (draw_of_other verb.Call lines x e refl);
+      asides = asides_kept lines s x h plain;
       no_place_before_call = λ none. absurd (true≢false (sym (has_same verb.Call verb.Call lines x e refl) ∙ none));
       close_after_assign = stays_after verb.Call verb.Close verb.Assign lines x e refl refl h.close_after_assign;
       draw_after_close = stays_after verb.Call verb.Draw verb.Close lines x e refl refl h.draw_after_close;
-      no_conflict = still_none verb.Call verb.Conflict lines x e refl h.no_conflict;
       no_partition = still_none verb.Call verb.Partition lines x e refl h.no_partition;
       no_seal = still_none verb.Call verb.Seal lines x e refl h.no_seal;
       no_lottery = still_none verb.Call verb.Lottery lines x e refl h.no_lottery;
-      no_review = no_review_more lines x h.no_review plain;
     }
 
 -- an assignment
 assign_says : (lines : Lines) (s : State) (x : Text) (round : Round) → Says lines s → IsAdmitted lines verb.Assign → verb_in x ≡ verb.Assign → is_review x ≡ false →
-    round.plan ≡ setting lines → HoldsPairs (setting lines) (assigned lines) round.desk.pairs → is_valid (setting lines) (assigned lines) ≡ true →
-    Says (lines ++ x ∷ []) (record s { phase = phase.Reviewing; round = Some round })
-assign_says lines s x round h adm e plain plan pairs valid =
+    round.plan ≡ setting lines → HoldsPairs (setting lines) (assigned goal.Run lines) round.tally.desk.pairs → is_valid (setting lines) (assigned goal.Run lines) ≡ true →
+    ((a b : ℕ) → points_at round.tally.desk a b ≡ 0) → Says (lines ++ x ∷ []) (record s { phase = phase.Reviewing; round = Some round })
+assign_says lines s x round h adm e plain plan pairs valid silent =
     let same_setting : setting (lines ++ x ∷ []) ≡ setting lines = setting_kept verb.Assign lines x e refl refl refl refl refl in
-    let same_pairs : assigned (lines ++ x ∷ []) ≡ assigned lines = assigned_kept verb.Assign lines x e refl refl refl refl refl in
+    let same_pairs : assigned goal.Run (lines ++ x ∷ []) ≡ assigned goal.Run lines = assigned_kept verb.Assign lines x e refl refl refl refl refl in
     record {
       phase = sym (phase_assigned lines s x h e (before_assign lines verb.Assign adm refl refl refl));
       call = call_kept verb.Assign lines x s.call e refl h.call;
-      book = h.book ∙ sym (register_other verb.Assign lines x e refl refl refl refl);
-      round = (has_same verb.Assign verb.Assign lines x e refl, plan ∙ sym same_setting, rw (same_setting, same_pairs) pairs, rw (same_setting, same_pairs) valid);
+      book = book_kept lines s x h (register_other verb.Assign lines x e refl refl refl refl);
+      round = record {
+        fixed = has_same verb.Assign verb.Assign lines x e refl;
+        plan = plan ∙ sym same_setting;
+        pairs = rw (same_setting, same_pairs) pairs;
+        valid = rw (same_setting, same_pairs) valid;
+        points = λ a b al bl. silent a b ∙ sym (points-same lines x a b (ap (λ t. t && is_none (kind_of goal.Run lines x)) plain) same_setting
+            ∙ points-none lines a b (kept-opening lines (before_assign lines verb.Assign adm refl refl refl)));
+      };
       draw = h.draw ∙ sym (draw_of_other verb.Assign lines x e refl);
+      asides = asides_kept lines s x h plain;
       no_place_before_call = stays_before verb.Assign verb.Call verb.Place lines x e refl refl h.no_place_before_call;
       close_after_assign = λ closed. has_same verb.Assign verb.Assign lines x e refl;
       draw_after_close = stays_after verb.Assign verb.Draw verb.Close lines x e refl refl h.draw_after_close;
-      no_conflict = still_none verb.Assign verb.Conflict lines x e refl h.no_conflict;
       no_partition = still_none verb.Assign verb.Partition lines x e refl h.no_partition;
       no_seal = still_none verb.Assign verb.Seal lines x e refl h.no_seal;
       no_lottery = still_none verb.Assign verb.Lottery lines x e refl h.no_lottery;
-      no_review = no_review_more lines x h.no_review plain;
     }
 
 -- a close
@@ -159,17 +317,16 @@ close_says lines s x h adm e plain =
     record {
       phase = sym (phase_closed lines s x h e came.0 came.1);
       call = call_kept verb.Close lines x s.call e refl h.call;
-      book = h.book ∙ sym (register_other verb.Close lines x e refl refl refl refl);
-      round = round_kept verb.Close lines x s.round e refl refl refl refl refl refl h.round;
+      book = book_kept lines s x h (register_other verb.Close lines x e refl refl refl refl);
+      round = round_kept verb.Close lines x s.round e plain refl refl refl refl refl refl h.round;
       draw = h.draw ∙ sym (draw_of_other verb.Close lines x e refl);
+      asides = asides_kept lines s x h plain;
       no_place_before_call = stays_before verb.Close verb.Call verb.Place lines x e refl refl h.no_place_before_call;
       close_after_assign = λ closed. has_other verb.Close verb.Assign lines x e refl ∙ came.0;
       draw_after_close = λ drawn. has_same verb.Close verb.Close lines x e refl;
-      no_conflict = still_none verb.Close verb.Conflict lines x e refl h.no_conflict;
       no_partition = still_none verb.Close verb.Partition lines x e refl h.no_partition;
       no_seal = still_none verb.Close verb.Seal lines x e refl h.no_seal;
       no_lottery = still_none verb.Close verb.Lottery lines x e refl h.no_lottery;
-      no_review = no_review_more lines x h.no_review plain;
     }
 
 -- a draw
@@ -180,40 +337,65 @@ draw_says lines s x n h adm e plain fixed =
     record {
       phase = sym (phase_drawn lines x e came.0 came.1);
       call = call_kept verb.Draw lines x s.call e refl h.call;
-      book = h.book ∙ sym (register_other verb.Draw lines x e refl refl refl refl);
-      round = round_kept verb.Draw lines x s.round e refl refl refl refl refl refl h.round;
+      book = book_kept lines s x h (register_other verb.Draw lines x e refl refl refl refl);
+      round = round_kept verb.Draw lines x s.round e plain refl refl refl refl refl refl h.round;
       draw = fixed ∙ sym (draw_of_first lines x came.2 e);
+      asides = asides_kept lines s x h plain;
       no_place_before_call = stays_before verb.Draw verb.Call verb.Place lines x e refl refl h.no_place_before_call;
       close_after_assign = stays_after verb.Draw verb.Close verb.Assign lines x e refl refl h.close_after_assign;
       draw_after_close = λ drawn. has_other verb.Draw verb.Close lines x e refl ∙ came.1;
-      no_conflict = still_none verb.Draw verb.Conflict lines x e refl h.no_conflict;
       no_partition = still_none verb.Draw verb.Partition lines x e refl h.no_partition;
       no_seal = still_none verb.Draw verb.Seal lines x e refl h.no_seal;
       no_lottery = still_none verb.Draw verb.Lottery lines x e refl h.no_lottery;
-      no_review = no_review_more lines x h.no_review plain;
     }
 
 -- what a line puts on record
-applicant_read : (x : Text) (v : Verb) (args : List Text) (name person : Text) → IsHouseLine x v args → name ≡ argument args 0 →
-    person ≡ (if length args == 1 then argument args 0 else argument args 1) → (name, person) ≡ applicant_in x
-applicant_read x v args name person line n p = rw (n, p, person_in x v args line, line_word x v args 0 line) refl
-
 applicant_book : (lines : Lines) (s : State) (x : Text) (name person : Text) → Says lines s → verb_in x ≡ verb.Applicant → (name, person) ≡ applicant_in x →
-    record s.book { applicants = s.book.applicants ++ (name, person) ∷ [] } ≡ register (lines ++ x ∷ [])
-applicant_book lines s x name person h e a = rw (register_applicant lines x e, h.book, a) refl
+    IsSameRegister (record s.book { applicants = s.book.applicants ++ (name, person) ∷ [] }) (register (lines ++ x ∷ []))
+applicant_book lines s x name person h e a =
+    rw (register_applicant lines x e, ← a) (record {
+      others = ap (λ (reg : Register). record reg { applicants = reg.applicants ++ (name, person) ∷ [] }) h.book.others;
+      barred = h.book.barred;
+    })
 
-place_book : (lines : Lines) (s : State) (x : Text) (person : Text) (cluster : ℕ) → Says lines s → verb_in x ≡ verb.Place → person ≡ word x 1 → cluster ≡ number (word x 2) →
-    record s.book { placed = s.book.placed ++ (person, cluster) ∷ [] } ≡ register (lines ++ x ∷ [])
-place_book lines s x person cluster h e p c = rw (register_place lines x e, h.book, p, c) refl
+place_book : (lines : Lines) (s : State) (x : Text) (person : Text) (cluster : ℕ) → Says lines s → verb_in x ≡ verb.Place → (person, cluster) ≡ place_in x →
+    IsSameRegister (record s.book { placed = s.book.placed ++ (person, cluster) ∷ [] }) (register (lines ++ x ∷ []))
+place_book lines s x person cluster h e p =
+    rw (register_place lines x e, ← p) (record {
+      others = ap (λ (reg : Register). record reg { placed = reg.placed ++ (person, cluster) ∷ [] }) h.book.others;
+      barred = h.book.barred;
+    })
 
-pair_book : (lines : Lines) (s : State) (x : Text) (person proposal : Text) → Says lines s → verb_in x ≡ verb.Pair → person ≡ word x 1 → proposal ≡ word x 2 →
-    record s.book { pairs = s.book.pairs ++ (person, proposal) ∷ [] } ≡ register (lines ++ x ∷ [])
-pair_book lines s x person proposal h e p q = rw (register_pair lines x e, h.book, p, q) refl
+pair_book : (lines : Lines) (s : State) (x : Text) (person proposal : Text) → Says lines s → verb_in x ≡ verb.Pair → (person, proposal) ≡ pair_in x →
+    IsSameRegister (record s.book { pairs = s.book.pairs ++ (person, proposal) ∷ [] }) (register (lines ++ x ∷ []))
+pair_book lines s x person proposal h e p =
+    rw (register_pair lines x e, ← p) (record {
+      others = ap (λ (reg : Register). record reg { pairs = reg.pairs ++ (person, proposal) ∷ [] }) h.book.others;
+      barred = h.book.barred;
+    })
+
+or_false : (b : Bool) → (b || false) ≡ b
+or_false true = refl
+or_false false = refl
+
+pair_among-push : (ps : List (Text × Text)) (person proposal a b : Text) →
+    pair_among (ps ++ (person, proposal) ∷ []) a b ≡ (pair_among ps a b || (bytes_eq person a && bytes_eq proposal b))
+unfolding pair_among
+pair_among-push ps person proposal a b =
+    list_any-append (λ p. bytes_eq p.0 a && bytes_eq p.1 b) ps ((person, proposal) ∷ [])
+    ∙ ap (λ t. list_any (λ p. bytes_eq p.0 a && bytes_eq p.1 b) ps || t) (or_false (bytes_eq person a && bytes_eq proposal b))
+
+conflict_book : (lines : Lines) (s : State) (x : Text) (book : Register) (person proposal : Text) → Says lines s → verb_in x ≡ verb.Conflict → (person, proposal) ≡ pair_in x →
+    IsBarredMore s.book book person proposal → IsSameRegister book (register (lines ++ x ∷ []))
+conflict_book lines s x book person proposal h e p more =
+    rw (register_conflict lines x e, ← p) (record {
+      others = more.others ∙ h.book.others;
+      barred = λ a b. more.barred a b ∙ ap (λ t. t || (bytes_eq person a && bytes_eq proposal b)) (h.book.barred a b) ∙ sym (pair_among-push (register lines).barred person proposal a b);
+    })
 
 opens_applicant : IsOpening verb.Applicant
 opens_applicant = record {
   no_call = refl;
-  no_conflict = refl;
   no_partition = refl;
   no_seal = refl;
   no_assign = refl;
@@ -228,7 +410,6 @@ opens_applicant = record {
 opens_place : IsOpening verb.Place
 opens_place = record {
   no_call = refl;
-  no_conflict = refl;
   no_partition = refl;
   no_seal = refl;
   no_assign = refl;
@@ -243,7 +424,6 @@ opens_place = record {
 opens_pair : IsOpening verb.Pair
 opens_pair = record {
   no_call = refl;
-  no_conflict = refl;
   no_partition = refl;
   no_seal = refl;
   no_assign = refl;
@@ -255,69 +435,75 @@ opens_pair = record {
   not_drawn = refl;
 }
 
-valid_from : (a b c d v : Bool) → (a || b || c || d || not v) ≡ false → v ≡ true
-valid_from a b c d true h = refl
-valid_from true b c d false h = cc
-valid_from false true c d false h = cc
-valid_from false false true d false h = cc
-valid_from false false false true false h = cc
-valid_from false false false false false h = cc
+opens_conflict : IsOpening verb.Conflict
+opens_conflict = record {
+  no_call = refl;
+  no_partition = refl;
+  no_seal = refl;
+  no_assign = refl;
+  no_close = refl;
+  no_draw = refl;
+  no_lottery = refl;
+  not_reviewing = refl;
+  not_closed = refl;
+  not_drawn = refl;
+}
 
-assign_valid : (lines : Lines) (s : State) → Says lines s → has verb.Call lines ≡ true → is_late s command.Assign ≡ false → is_valid (setting lines) (assigned lines) ≡ true
-assign_valid lines s h called late =
-    let valid = valid_from (is_none s.call) (eqb (length s.book.applicants) 0) (not (all_placed s.book)) (eqb (length s.book.pairs) 0)
-    (is_valid (setting_in s) (name_pair s.book.pairs (setting_in s))) late in
+valid_by : (few placed none valid : Bool) →
+    (if few then Some reason.Few else if not placed then Some reason.Unplaced else if none then Some reason.Later else if not valid then Some reason.Invalid else None) ≡ None → valid ≡ true
+valid_by true placed none valid h = cc
+valid_by false false none valid h = cc
+valid_by false true true valid h = cc
+valid_by false true false true h = refl
+valid_by false true false false h = cc
+
+assign_valid : (lines : Lines) (s : State) → Says lines s → has verb.Call lines ≡ true → own_reason s command.Assign ≡ None → is_valid (setting lines) (assigned goal.Run lines) ≡ true
+assign_valid lines s h called free =
+    let valid = valid_by (eqb (length s.book.applicants) 0) (all_placed s.book) (eqb (length s.book.pairs) 0) (is_valid (setting_in s) (pairs_in s)) free in
     rw (← pairs_are lines s h called, ← setting_is lines s h called) valid
 
 -- the state of one more line that is carried out
-carried_out : (lines : Lines) (s : State) (x : Text) (v : Verb) (args : List Text) (c : Command) (new : State) → Says lines s → IsHouseLine x v args → IsRead v args c →
-    IsAdmitted lines v → is_late s c ≡ false → Becomes s c new → Says (lines ++ x ∷ []) new
-carried_out lines s x v args (command.Call call) new h line read adm late becomes =
-    let verb_is = line_verb x v args line ∙ read.carries.0 in
-    let may = subst (λ u. IsAdmitted lines u) read.carries.0 adm in
+carried_out : (lines : Lines) (s : State) (x : Text) (c : Command) (new : State) → Says lines s → verb_in x ≡ verb_of_command c → is_review x ≡ false → Carries c x →
+    IsAdmitted lines (verb_of_command c) → own_reason s c ≡ None → Becomes s c new → Says (lines ++ x ∷ []) new
+carried_out lines s x (command.Call call) new h is plain carries adm free becomes =
+    subst (λ n. Says (lines ++ x ∷ []) n) (sym becomes) (call_says lines s x call h adm is plain carries.0 carries.1 carries.2)
+carried_out lines s x (command.Applicant name person) new h is plain carries adm free becomes =
     subst (λ n. Says (lines ++ x ∷ []) n) (sym becomes)
-    (call_says lines s x call h may verb_is line.not_review (read.carries.1 ∙ ap number (sym (line_word x v args 0 line)))
-    (read.carries.2 ∙ ap number (sym (line_word x v args 1 line))) (read.carries.3 ∙ ap number (sym (line_word x v args 2 line))))
-carried_out lines s x v args (command.Applicant name person) new h line read adm late becomes =
-    let verb_is = line_verb x v args line ∙ read.carries.0 in
-    let may = subst (λ u. IsAdmitted lines u) read.carries.0 adm in
-    subst (λ n. Says (lines ++ x ∷ []) n) (sym becomes)
-    (opened_says verb.Applicant lines s x (record s.book { applicants = s.book.applicants ++ (name, person) ∷ [] }) h may verb_is line.not_review opens_applicant
-    (applicant_book lines s x name person h verb_is (applicant_read x v args name person line read.carries.1 read.carries.2))
-    (stays_before verb.Applicant verb.Call verb.Place lines x verb_is refl refl h.no_place_before_call))
-carried_out lines s x v args (command.Place person cluster) new h line read adm late becomes =
-    let verb_is = line_verb x v args line ∙ read.carries.0 in
-    let may = subst (λ u. IsAdmitted lines u) read.carries.0 adm in
-    subst (λ n. Says (lines ++ x ∷ []) n) (sym becomes)
-    (opened_says verb.Place lines s x (record s.book { placed = s.book.placed ++ (person, cluster) ∷ [] }) h may verb_is line.not_review opens_place
-    (place_book lines s x person cluster h verb_is (read.carries.1 ∙ sym (line_word x v args 0 line)) (read.carries.2 ∙ ap number (sym (line_word x v args 1 line))))
-    (λ none. absurd (true≢false (sym (has_other verb.Place verb.Call lines x verb_is refl ∙ came (has verb.Call lines) may.called) ∙ none))))
-carried_out lines s x v args (command.Pair person proposal) new h line read adm late becomes =
-    let verb_is = line_verb x v args line ∙ read.carries.0 in
-    let may = subst (λ u. IsAdmitted lines u) read.carries.0 adm in
-    subst (λ n. Says (lines ++ x ∷ []) n) (sym becomes)
-    (opened_says verb.Pair lines s x (record s.book { pairs = s.book.pairs ++ (person, proposal) ∷ [] }) h may verb_is line.not_review opens_pair
-    (pair_book lines s x person proposal h verb_is (read.carries.1 ∙ sym (line_word x v args 0 line)) (read.carries.2 ∙ sym (line_word x v args 1 line)))
-    (stays_before verb.Pair verb.Call verb.Place lines x verb_is refl refl h.no_place_before_call))
-carried_out lines s x v args command.Assign new h line read adm late becomes =
-    let verb_is = line_verb x v args line ∙ read.carries in
-    let may = subst (λ u. IsAdmitted lines u) read.carries adm in
-    let called = came (has verb.Call lines) may.called in
+    (opened_says verb.Applicant lines s x (record s.book { applicants = s.book.applicants ++ (name, person) ∷ [] }) h adm is plain opens_applicant
+    (applicant_book lines s x name person h is carries)
+    (stays_before verb.Applicant verb.Call verb.Place lines x is refl refl h.no_place_before_call))
+carried_out lines s x (command.Conflict person proposal) new h is plain carries adm free becomes =
     subst (λ n. Says (lines ++ x ∷ []) n) (sym becomes.1)
-    (assign_says lines s x becomes.0 h may verb_is line.not_review (becomes.2 ∙ setting_is lines s h called)
-    (rw (← pairs_are lines s h called, ← setting_is lines s h called) becomes.3) (assign_valid lines s h called late))
-carried_out lines s x v args command.Close new h line read adm late becomes =
-    let verb_is = line_verb x v args line ∙ read.carries in
-    let may = subst (λ u. IsAdmitted lines u) read.carries adm in
-    subst (λ n. Says (lines ++ x ∷ []) n) (sym becomes) (close_says lines s x h may verb_is line.not_review)
-carried_out lines s x v args (command.Draw n) new h line read adm late becomes =
-    let verb_is = line_verb x v args line ∙ read.carries.0 in
-    let may = subst (λ u. IsAdmitted lines u) read.carries.0 adm in
+    (opened_says verb.Conflict lines s x becomes.0 h adm is plain opens_conflict
+    (conflict_book lines s x becomes.0 person proposal h is carries becomes.2)
+    (stays_before verb.Conflict verb.Call verb.Place lines x is refl refl h.no_place_before_call))
+carried_out lines s x (command.Place person cluster) new h is plain carries adm free becomes =
     subst (λ n. Says (lines ++ x ∷ []) n) (sym becomes)
-    (draw_says lines s x n h may verb_is line.not_review (read.carries.1 ∙ ap number (sym (line_word x v args 0 line))))
+    (opened_says verb.Place lines s x (record s.book { placed = s.book.placed ++ (person, cluster) ∷ [] }) h adm is plain opens_place
+    (place_book lines s x person cluster h is carries)
+    (λ none. absurd (true≢false (sym (has_other verb.Place verb.Call lines x is refl ∙ came (has verb.Call lines) adm.called) ∙ none))))
+carried_out lines s x (command.Partition seed) new h is plain carries adm free becomes = absurd becomes
+carried_out lines s x (command.Pair person proposal) new h is plain carries adm free becomes =
+    subst (λ n. Says (lines ++ x ∷ []) n) (sym becomes)
+    (opened_says verb.Pair lines s x (record s.book { pairs = s.book.pairs ++ (person, proposal) ∷ [] }) h adm is plain opens_pair
+    (pair_book lines s x person proposal h is carries)
+    (stays_before verb.Pair verb.Call verb.Place lines x is refl refl h.no_place_before_call))
+carried_out lines s x (command.Seal digest) new h is plain carries adm free becomes = absurd becomes
+carried_out lines s x command.Assign new h is plain carries adm free becomes =
+    let called = came (has verb.Call lines) adm.called in
+    subst (λ n. Says (lines ++ x ∷ []) n) (sym becomes.1)
+    (assign_says lines s x becomes.0 h adm is plain (becomes.2.plan ∙ setting_is lines s h called)
+    (rw (← pairs_are lines s h called, ← setting_is lines s h called) becomes.2.pairs) (assign_valid lines s h called free) becomes.2.silent)
+carried_out lines s x command.Close new h is plain carries adm free becomes =
+    subst (λ n. Says (lines ++ x ∷ []) n) (sym becomes) (close_says lines s x h adm is plain)
+carried_out lines s x (command.Draw n) new h is plain carries adm free becomes =
+    subst (λ n. Says (lines ++ x ∷ []) n) (sym becomes) (draw_says lines s x n h adm is plain carries)
+carried_out lines s x (command.Lottery seed) new h is plain carries adm free becomes = absurd becomes
 
--- a command that was read, may come and is not late
-pub obeyed_says : (lines : Lines) (s : State) (x : Text) (v : Verb) (args : List Text) (c : Command) (new : State) → Says lines s → IsHouseLine x v args → IsRead v args c →
-    admitted s v ≡ Ok tt → is_late s c ≡ false → Becomes s c new → (refusal goal.Run lines x ≡ None) × Says (lines ++ x ∷ []) new
-obeyed_says lines s x v args c new h line read e late becomes =
-    (not_late_not_refused lines s x v args c h line read e late, carried_out lines s x v args c new h line read (is_admitted lines s v h e) late becomes)
+-- a command that was read, may come and is carried out
+pub obeyed_says : (lines : Lines) (s : State) (x : Text) (c : Command) (new : State) → Says lines s → IsCommandLine x c → turned_away s (verb_of_command c) ≡ None →
+    own_reason s c ≡ None → Becomes s c new → (refusal goal.Run lines x ≡ None) × Says (lines ++ x ∷ []) new
+obeyed_says lines s x c new h line free own becomes = (
+  read_refusal lines s x c h line free ∙ own,
+  carried_out lines s x c new h (sym line.verb) (house_is_no_review x line.house) line.carries (is_admitted lines s (verb_of_command c) h free) own becomes,
+)

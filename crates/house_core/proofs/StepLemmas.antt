@@ -1,22 +1,25 @@
 use Rattle.std.proofs.Common.{◌≡◌, ℕ, Bool, true, false, eqb, Option, Some, None, [], ◌∷◌, ◌++◌, refl, sym, ap, ◌∙◌}
-use Rattle.std.specs.Prelude.{MatchOption, not, ◌||◌}
+use Rattle.std.specs.Prelude.{MatchOption, not, ◌||◌, ◌&&◌}
+use Rattle.std.specs.Option.{is_none}
 use Rattle.std.proofs.lemmas.Bool.{true≢false, or_parts, not-false}
 use Rattle.house_base.specs.declared.call.Call.{Call}
 use Rattle.house_base.specs.declared.phase.Phase.{Phase}
 use Rattle.house_base.specs.declared.phase.Phase.TheVariants as phase
 use Rattle.house_model.specs.declared.verb.Verb.{Verb}
 use Rattle.house_model.specs.declared.verb.Verb.TheVariants as verb
-use Rattle.house_model.specs.Profile.{is_valid}
+use Rattle.house_model.specs.declared.goal.Goal.TheVariants as goal
 use Rattle.house_model.specs.Text.{Text, Lines}
-use Rattle.house_model.specs.Verbs.{allows, verb_in, verb_number}
+use Rattle.house_model.specs.Verbs.{allows, verb_in, verb_number, is_review}
 use Rattle.house_model.specs.Said.{has, phase_after, call_number, seats_of, clusters_of, reviews_of, setting, assigned}
 use Rattle.house_model.specs.Faults.{comes_again}
+use Rattle.house_model.specs.Reviews.{kind_of, points_of}
 use Rattle.house_core.specs.declared.state.Round.{Round}
 use Rattle.house_core.specs.declared.state.State.{State}
-use Rattle.house_core.specs.Standing.{Says, HoldsPairs}
+use Rattle.house_core.specs.Standing.{Says, IsRoundOf}
 use Rattle.house_core.proofs.PushLemmas.{has_other, has_same, call_number_other, register_other, setting_same, assigned_same, phase_by, phase_is}
 use Rattle.house_core.proofs.RefusalLemmas.{is_wrong_turn}
 use Rattle.house_core.proofs.AdmittedLemmas.{IsAdmitted}
+use Rattle.house_core.proofs.ReviewLemmas.{points-same}
 
 -- What one more line leaves of what the lines say.
 
@@ -80,9 +83,8 @@ abbrev pub IsCallOf : Lines → Option Call → Type 0
 IsCallOf lines call = MatchOption call (has verb.Call lines ≡ false) (λ c.
     (has verb.Call lines ≡ true) × (c.seats ≡ seats_of lines) × (c.clusters ≡ clusters_of lines) × (c.reviews ≡ reviews_of lines))
 
-abbrev pub IsRoundOf : Lines → Option Round → Type 0
-IsRoundOf lines round = MatchOption round (has verb.Assign lines ≡ false) (λ r.
-    (has verb.Assign lines ≡ true) × (r.plan ≡ setting lines) × HoldsPairs (setting lines) (assigned lines) r.desk.pairs × (is_valid (setting lines) (assigned lines) ≡ true))
+abbrev pub HasRound : Lines → Option Round → Type 0
+HasRound lines round = MatchOption round (has verb.Assign lines ≡ false) (IsRoundOf lines)
 
 call_stays : (old new : Lines) (call : Option Call) → has verb.Call new ≡ has verb.Call old → ((i : ℕ) → call_number new i ≡ call_number old i) → IsCallOf old call → IsCallOf new call
 call_stays old new None e numbers h = e ∙ h
@@ -93,17 +95,24 @@ pub call_kept : (v : Verb) (lines : Lines) (x : Text) (call : Option Call) → v
 call_kept v lines x call h other said =
     call_stays lines (lines ++ x ∷ []) call (has_other v verb.Call lines x h other) (λ i. call_number_other v lines x i h other) said
 
-round_stays : (old new : Lines) (round : Option Round) → has verb.Assign new ≡ has verb.Assign old → setting new ≡ setting old → assigned new ≡ assigned old → IsRoundOf old round → IsRoundOf new round
-round_stays old new None e plan pairs h = e ∙ h
-round_stays old new (Some r) e plan pairs h = (e ∙ h.0, h.1 ∙ sym plan, rw (plan, pairs) h.2, rw (plan, pairs) h.3)
+pub round_stays : (old new : Lines) (round : Option Round) → has verb.Assign new ≡ has verb.Assign old → setting new ≡ setting old → assigned goal.Run new ≡ assigned goal.Run old →
+    ((r p : ℕ) → points_of new r p ≡ points_of old r p) → HasRound old round → HasRound new round
+round_stays old new None e plan pairs points h = e ∙ h
+round_stays old new (Some r) e plan pairs points h = record {
+  fixed = e ∙ h.fixed;
+  plan = h.plan ∙ sym plan;
+  pairs = rw (plan, pairs) h.pairs;
+  valid = rw (plan, pairs) h.valid;
+  points = rw plan (λ a b al bl. h.points a b al bl ∙ sym (points a b));
+}
 
 -- a line of the opening, before the assignment
-round_missing : (old new : Lines) (round : Option Round) → has verb.Assign old ≡ false → has verb.Assign new ≡ false → IsRoundOf old round → IsRoundOf new round
+round_missing : (old new : Lines) (round : Option Round) → has verb.Assign old ≡ false → has verb.Assign new ≡ false → HasRound old round → HasRound new round
 round_missing old new None no_old no_new h = no_new
-round_missing old new (Some r) no_old no_new h = absurd (true≢false (sym h.0 ∙ no_old))
+round_missing old new (Some r) no_old no_new h = absurd (true≢false (sym h.fixed ∙ no_old))
 
-pub round_none : (v : Verb) (lines : Lines) (x : Text) (round : Option Round) → verb_in x ≡ v → eqb (verb_number v) 7 ≡ false → has verb.Assign lines ≡ false → IsRoundOf lines round →
-    IsRoundOf (lines ++ x ∷ []) round
+pub round_none : (v : Verb) (lines : Lines) (x : Text) (round : Option Round) → verb_in x ≡ v → eqb (verb_number v) 7 ≡ false → has verb.Assign lines ≡ false → HasRound lines round →
+    HasRound (lines ++ x ∷ []) round
 round_none v lines x round h other none said = round_missing lines (lines ++ x ∷ []) round none (still_none v verb.Assign lines x h other none) said
 
 -- a line that puts nothing on record
@@ -113,14 +122,16 @@ setting_kept v lines x h c a p b q =
     setting_same lines (lines ++ x ∷ []) (λ i. call_number_other v lines x i h c) (register_other v lines x h a p b q)
 
 pub assigned_kept : (v : Verb) (lines : Lines) (x : Text) → verb_in x ≡ v → eqb (verb_number v) 0 ≡ false →
-    eqb (verb_number v) 1 ≡ false → eqb (verb_number v) 3 ≡ false → eqb (verb_number v) 2 ≡ false → eqb (verb_number v) 5 ≡ false → assigned (lines ++ x ∷ []) ≡ assigned lines
+    eqb (verb_number v) 1 ≡ false → eqb (verb_number v) 3 ≡ false → eqb (verb_number v) 2 ≡ false → eqb (verb_number v) 5 ≡ false → assigned goal.Run (lines ++ x ∷ []) ≡ assigned goal.Run lines
 assigned_kept v lines x h c a p b q =
     assigned_same lines (lines ++ x ∷ []) (register_other v lines x h a p b q) (setting_kept v lines x h c a p b q)
 
-pub round_kept : (v : Verb) (lines : Lines) (x : Text) (round : Option Round) → verb_in x ≡ v → eqb (verb_number v) 7 ≡ false → eqb (verb_number v) 0 ≡ false →
-    eqb (verb_number v) 1 ≡ false → eqb (verb_number v) 3 ≡ false → eqb (verb_number v) 2 ≡ false → eqb (verb_number v) 5 ≡ false → IsRoundOf lines round → IsRoundOf (lines ++ x ∷ []) round
-round_kept v lines x round h other c a p b q said =
-    round_stays lines (lines ++ x ∷ []) round (has_other v verb.Assign lines x h other) (setting_kept v lines x h c a p b q) (assigned_kept v lines x h c a p b q) said
+pub round_kept : (v : Verb) (lines : Lines) (x : Text) (round : Option Round) → verb_in x ≡ v → is_review x ≡ false → eqb (verb_number v) 7 ≡ false → eqb (verb_number v) 0 ≡ false →
+    eqb (verb_number v) 1 ≡ false → eqb (verb_number v) 3 ≡ false → eqb (verb_number v) 2 ≡ false → eqb (verb_number v) 5 ≡ false → HasRound lines round → HasRound (lines ++ x ∷ []) round
+round_kept v lines x round h plain other c a p b q said =
+    let same = setting_kept v lines x h c a p b q in
+    round_stays lines (lines ++ x ∷ []) round (has_other v verb.Assign lines x h other) same (assigned_kept v lines x h c a p b q)
+    (λ r p. points-same lines x r p (ap (λ t. t && is_none (kind_of goal.Run lines x)) plain) same) said
 
 -- the phase behind an assignment, a close and a draw
 phase_at : (a c d l : Bool) (p : Phase) (lines : Lines) → has verb.Assign lines ≡ a → has verb.Close lines ≡ c → has verb.Draw lines ≡ d → has verb.Lottery lines ≡ l →

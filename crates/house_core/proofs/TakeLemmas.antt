@@ -1,124 +1,152 @@
-use Rattle.std.proofs.Common.{◌≡◌, ℕ, ◌<◌, ◌≤◌, ◌^◌, Bool, true, false, leb, List, [], ◌∷◌, ◌++◌, refl, sym, ap, ◌∙◌, arith, Option, Some, None, Result, Ok, Err}
-use Rattle.std.specs.Prelude.{OnOk, not, ◌&&◌}
-use Rattle.std.specs.Option.{option_map_or}
-use Rattle.std.proofs.lemmas.Bool.{leb-true}
-use Rattle.house_base.specs.Name.{is_name}
-use Rattle.house_base.specs.Number.{number_up_to}
+-- What taking a line comes to.
+use Rattle.std.proofs.Common.{◌≡◌, ℕ, Bool, true, false, Option, Some, None, Result, Ok, Err, [], ◌∷◌, ◌++◌, refl, sym, ap, ◌∙◌, subst}
+use Rattle.std.specs.Prelude.{OnOk, is_some, not, ◌||◌, ◌&&◌, if◌then◌else◌}
+use Rattle.std.proofs.lemmas.Bool.{not-false, true≢false}
 use Rattle.house_base.specs.declared.answer.Reason.{Reason}
 use Rattle.house_base.specs.declared.answer.Reason.TheVariants as reason
+use Rattle.house_base.specs.declared.limits.TheConstants.{MOST_CLUSTERS}
+use Rattle.house_base.specs.declared.phase.Phase.{Phase}
 use Rattle.house_base.specs.declared.phase.Phase.TheVariants as phase
+use Rattle.house_model.specs.declared.command.Command.{Command}
+use Rattle.house_model.specs.declared.command.Command.TheVariants as command
 use Rattle.house_model.specs.declared.goal.Goal.TheVariants as goal
 use Rattle.house_model.specs.declared.verb.Verb.{Verb}
-use Rattle.house_model.specs.Text.{Text, Lines}
-use Rattle.house_model.specs.Verbs.{verb_in}
-use Rattle.house_model.specs.Said.{number}
+use Rattle.house_model.specs.declared.verb.Verb.TheVariants as verb
+use Rattle.house_model.specs.Commands.{verb_of_command}
 use Rattle.house_model.specs.Faults.{is_within}
-use Rattle.house_model.specs.Transitional.{refusal}
-use Rattle.house_core.specs.declared.command.Command.{Command}
-use Rattle.house_core.specs.declared.command.Command.TheVariants as command
-use Rattle.house_core.specs.declared.command.Line.TheVariants as kind
+use Rattle.house_model.specs.Text.{Text, Lines, word, is_blank}
+use Rattle.house_model.specs.Verbs.{verb_in, allows, is_house, is_review}
+use Rattle.house_model.specs.Transitional.{awaits, refusal}
+use Rattle.command_text.specs.Reading.{IsCommandLine, IsBadLine, numbers_are_within}
 use Rattle.house_core.specs.declared.state.State.{State}
 use Rattle.house_core.specs.declared.state.Stop.{Stop}
 use Rattle.house_core.specs.declared.state.Stop.TheVariants as stop
-use Rattle.house_core.specs.Reading.{Reads, IsHouseLine, IsRead, Carries, argument}
-use Rattle.house_core.specs.Standing.{Says, Obeys, StopsAt, MayLack, TakesMemory, IsFormed, admitted, is_late, verb_of_command}
-use Rattle.house_core.proofs.NumberLemmas.{number_at_most, number_is}
-use Rattle.house_core.proofs.LineLemmas.{verb_by_first}
-use Rattle.house_core.proofs.AdmittedLemmas.{admitted_refuses, memory_opens}
-use Rattle.house_core.proofs.LateLemmas.{ill_read_refused, late_refused}
+use Rattle.house_core.specs.Standing.{Says, Obeys, Takes, TakesFor, StateMayLack, LacksAt, MayLack, IsFormed, is_call, turned_away, took_of, own_reason}
+use Rattle.house_base.specs.declared.answer.Took.TheVariants as took
+use Rattle.house_model.specs.Reviews.{kind_of}
+use Rattle.review_desk.specs.Line.{took_as}
+use Rattle.house_core.proofs.RefusalLemmas.{house_is_no_review}
+use Rattle.house_core.proofs.AdmittedLemmas.{turned_refuses}
+use Rattle.house_core.proofs.OwnLemmas.{bad_refused, read_refusal, fault_is, none_by, holds_clusters}
 use Rattle.house_core.proofs.SaysLemmas.{obeyed_says}
 
--- a number within bounds
-within_bounds : (low high : ℕ) (w : Text) (o : Option ℕ) → high < 2 ^ 64 → number_up_to high w ≡ o → option_map_or (leb low) o false ≡ true → (low ≤ number w) × (number w ≤ high)
-within_bounds low high w None few is h = cc
-within_bounds low high w (Some n) few is h =
-    let value : number w ≡ n = number_is high n w few is in
-    let above : low ≤ n = leb-true low n h in
-    let below : n ≤ high = number_at_most high n w is in
-    (omega arith, omega arith)
-
-holds_within : (low high : ℕ) (w : Text) → high < 2 ^ 64 → is_within low high w ≡ true → (low ≤ number w) × (number w ≤ high)
-unfolding is_within
-holds_within low high w few h = within_bounds low high w (number_up_to high w) few refl h
-
-not_off : (a b : Bool) → not (a && b) ≡ false → b ≡ true
-not_off true true h = refl
-not_off true false h = cc
-not_off false b h = cc
-
 -- a command that was read is of the form that carrying it out asks for
-pub read_formed : (c : Command) (v : Verb) (args : List Text) → IsRead v args c → IsFormed c
-read_formed (command.Call call) v args is = tt
-read_formed (command.Applicant name person) v args is = tt
-read_formed (command.Place person cluster) v args is =
-    let carried = is.carries in
-    let off = rw carried.0 at is.formed in
-    let inside = holds_within 1 30 (argument args 1) (omega arith) (not_off (is_name (argument args 0)) (is_within 1 30 (argument args 1)) off) in
-    rw carried.2 inside
-read_formed (command.Pair person proposal) v args is = tt
-read_formed command.Assign v args is = tt
-read_formed command.Close v args is = tt
-read_formed (command.Draw n) v args is = tt
+pub read_formed : (x : Text) (c : Command) → IsCommandLine x c → IsFormed c
+read_formed x (command.Call call) is = tt
+read_formed x (command.Applicant name person) is = tt
+read_formed x (command.Conflict person proposal) is = tt
+read_formed x (command.Place person cluster) is =
+    let parts = none_by _ _ _ (sym (fault_is x) ∙ is.no_fault) in
+    let within : is_within 1 MOST_CLUSTERS (word x 2) ≡ true = not-false _ (subst (λ v. not (numbers_are_within v x) ≡ false) (sym is.verb) parts.2) in
+    rw (ap (λ (a : Text × ℕ). a.1) is.carries) (holds_clusters (word x 2) within)
+read_formed x (command.Partition seed) is = tt
+read_formed x (command.Pair person proposal) is = tt
+read_formed x (command.Seal digest) is = tt
+read_formed x command.Assign is = tt
+read_formed x command.Close is = tt
+read_formed x (command.Draw n) is = tt
+read_formed x (command.Lottery seed) is = tt
 
-pub read_verb : (c : Command) (v : Verb) (args : List Text) → Carries c v args → verb_of_command c ≡ v
-read_verb (command.Call call) v args is = sym is.0
-read_verb (command.Applicant name person) v args is = sym is.0
-read_verb (command.Place person cluster) v args is = sym is.0
-read_verb (command.Pair person proposal) v args is = sym is.0
-read_verb command.Assign v args is = sym is
-read_verb command.Close v args is = sym is
-read_verb (command.Draw n) v args is = sym is.0
+-- a command that lacks memory has a line that may
+lacks_at : (s : State) (c : Command) (v : Verb) (why : Option Reason) → v ≡ verb_of_command c → why ≡ own_reason s c → StateMayLack s c → LacksAt v why
+lacks_at s (command.Call call) v why e f h = absurd h
+lacks_at s (command.Applicant name person) v why e f h = rw e (f ∙ h)
+lacks_at s (command.Conflict person proposal) v why e f h = absurd h
+lacks_at s (command.Place person cluster) v why e f h = absurd h
+lacks_at s (command.Partition seed) v why e f h = absurd h
+lacks_at s (command.Pair person proposal) v why e f h = rw e (f ∙ h)
+lacks_at s (command.Seal digest) v why e f h = absurd h
+lacks_at s command.Assign v why e f h = rw (e, f) h
+lacks_at s command.Close v why e f h = absurd h
+lacks_at s (command.Draw n) v why e f h = absurd h
+lacks_at s (command.Lottery seed) v why e f h = absurd h
 
--- the commands that may lack memory take it
-lacking_takes : (s : State) (c : Command) → MayLack s c → TakesMemory (verb_of_command c)
-lacking_takes s (command.Call call) h = absurd h
-lacking_takes s (command.Applicant name person) h = tt
-lacking_takes s (command.Place person cluster) h = absurd h
-lacking_takes s (command.Pair person proposal) h = tt
-lacking_takes s command.Assign h = tt
-lacking_takes s command.Close h = absurd h
-lacking_takes s (command.Draw n) h = absurd h
-
-module _ (lines : Lines) (s : State) (x : Text) where
+module _ (lines : Lines) (s : State) (x : Text) (says : Says lines s) where
   -- a line that is read as no command
-  pub bad_refused : (v : Verb) (r : Reason) → Reads x (kind.Bad v r) → Says lines s → admitted s v ≡ Ok tt → refusal goal.Run lines x ≡ Some r
-  bad_refused v r reads says free = ill_read_refused lines s x v reads.0 r says reads.1 free reads.2
+  pub bad_not_taken : (v : Verb) (r q : Reason) → IsBadLine x v r → turned_away s v ≡ Some q → refusal goal.Run lines x ≡ Some q
+  bad_not_taken v r q bad away = turned_refuses lines s x v q says bad.house (sym bad.verb) away
 
-  pub bad_not_admitted : (v : Verb) (r q : Reason) → Reads x (kind.Bad v r) → Says lines s → admitted s v ≡ Err (stop.Refused q) → refusal goal.Run lines x ≡ Some q
-  bad_not_admitted v r q reads says e = admitted_refuses lines s x v reads.0 q says reads.1 e
+  pub bad_not_read : (v : Verb) (r : Reason) → IsBadLine x v r → turned_away s v ≡ None → refusal goal.Run lines x ≡ Some r
+  bad_not_read v r bad free = bad_refused lines s x v r says bad free
 
   -- a line that is read as a command
-  pub house_not_admitted : (c : Command) (q : Reason) → Reads x (kind.House c) → Says lines s → admitted s (verb_of_command c) ≡ Err (stop.Refused q) → refusal goal.Run lines x ≡ Some q
-  house_not_admitted c q reads says e =
-      admitted_refuses lines s x reads.0 reads.1 q says reads.2 (rw (read_verb c reads.0 reads.1 reads.3.carries) at e)
+  pub command_kept : (c : Command) → IsCommandLine x c → took.Kept ≡ took_of lines x
+  command_kept c line = ap (λ b. if b then took_as (kind_of goal.Run lines x) else took.Kept) (sym (house_is_no_review x line.house))
 
-  obeys_ok : (c : Command) (v : Verb) (args : List Text) (r : Result (Unit {0}) Stop) (new : State) → IsHouseLine x v args → IsRead v args c → Says lines s → admitted s v ≡ Ok tt → Obeys s c r new →
-      OnOk r ((refusal goal.Run lines x ≡ None) × Says (lines ++ x ∷ []) new)
-  obeys_ok c v args (Ok done) new line read says free obeys = obeyed_says lines s x v args c new says line read free obeys.0 obeys.1
-  obeys_ok c v args (Err why) new line read says free obeys = tt
+  module _ (c : Command) (line : IsCommandLine x c) (new : State) where
+    obeys_ok : (r : Result (Unit {0}) Stop) → turned_away s (verb_of_command c) ≡ None → Obeys s c r new → OnOk r ((refusal goal.Run lines x ≡ None) × Says (lines ++ x ∷ []) new)
+    obeys_ok (Ok done) free obeys = obeyed_says lines s x c new says line free obeys.0 obeys.1
+    obeys_ok (Err why) free obeys = tt
 
-  pub house_obeyed : (c : Command) (r : Result (Unit {0}) Stop) (new : State) → Reads x (kind.House c) → Says lines s → admitted s (verb_of_command c) ≡ Ok tt → Obeys s c r new →
-      OnOk r ((refusal goal.Run lines x ≡ None) × Says (lines ++ x ∷ []) new)
-  house_obeyed c r new reads says free obeys =
-      obeys_ok c reads.0 reads.1 r new reads.2 reads.3 says (rw (read_verb c reads.0 reads.1 reads.3.carries) at free) obeys
+    taken_ok : (away : Option Reason) (r : Result (Unit {0}) Stop) → turned_away s (verb_of_command c) ≡ away → TakesFor away s c r new →
+        OnOk r ((refusal goal.Run lines x ≡ None) × Says (lines ++ x ∷ []) new)
+    taken_ok None r is takes = obeys_ok r is takes
+    taken_ok (Some q) r is takes = rw takes.0 tt
 
-  stops_late : (c : Command) (q : Reason) → StopsAt s c (stop.Refused q) → (is_late s c ≡ true) × (q ≡ reason.Later)
-  stops_late c reason.Later h = (h, refl)
-  stops_late c reason.Order h = absurd h
-  stops_late c reason.Form h = absurd h
-  stops_late c reason.Unfinished h = absurd h
+    pub command_ok : (r : Result (Unit {0}) Stop) → Takes s c r new → OnOk r ((refusal goal.Run lines x ≡ None) × Says (lines ++ x ∷ []) new)
+    command_ok r takes = taken_ok (turned_away s (verb_of_command c)) r refl takes
 
-  pub house_refused : (c : Command) (q : Reason) (new : State) → Reads x (kind.House c) → Says lines s → admitted s (verb_of_command c) ≡ Ok tt → Obeys s c (Err (stop.Refused q)) new →
-      refusal goal.Run lines x ≡ Some q
-  house_refused c q new reads says free obeys =
-      let late = stops_late c q obeys.0 in
-      late_refused lines s x reads.0 reads.1 c says reads.2 reads.3 (rw (read_verb c reads.0 reads.1 reads.3.carries) at free) late.0 ∙ ap Some (sym late.1)
+    taken_refused : (away : Option Reason) (r : Result (Unit {0}) Stop) (q : Reason) → turned_away s (verb_of_command c) ≡ away → TakesFor away s c r new → r ≡ Err (stop.Refused q) →
+        refusal goal.Run lines x ≡ Some q
+    taken_refused None r q is takes e = let obeys = subst (λ r. Obeys s c r new) e takes in read_refusal lines s x c says line is ∙ obeys.0
+    taken_refused (Some p) r q is takes e =
+        let same : p ≡ q = let f = takes.0 in cc in
+        turned_refuses lines s x (verb_of_command c) p says line.house (sym line.verb) is ∙ ap Some same
 
--- want of memory comes before the assignment, at a line whose command takes it
-pub house_lacks : (s : State) (x : Text) (c : Command) (new : State) → Reads x (kind.House c) → admitted s (verb_of_command c) ≡ Ok tt → Obeys s c (Err stop.Memory) new →
-    (s.phase ≡ phase.Opening) × TakesMemory (verb_in x)
-house_lacks s x c new reads free obeys =
-    let same : verb_of_command c ≡ verb_in x =
-    read_verb c reads.0 reads.1 reads.3.carries ∙ sym (verb_by_first x reads.2.first reads.1 reads.2.words ∙ reads.2.verb) in
-    let takes = lacking_takes s c obeys.0 in
-    (memory_opens s (verb_of_command c) free takes, rw same at takes)
+    pub command_refused : (r : Result (Unit {0}) Stop) (q : Reason) → Takes s c r new → r ≡ Err (stop.Refused q) → refusal goal.Run lines x ≡ Some q
+    command_refused r q takes e = taken_refused (turned_away s (verb_of_command c)) r q refl takes e
+
+    taken_lacks : (away : Option Reason) (r : Result (Unit {0}) Stop) → turned_away s (verb_of_command c) ≡ away → TakesFor away s c r new → r ≡ Err stop.Memory → MayLack lines x
+    taken_lacks None r is takes e =
+        let obeys = subst (λ r. Obeys s c r new) e takes in
+        lacks_at s c (verb_in x) (refusal goal.Run lines x) (sym line.verb) (read_refusal lines s x c says line is) obeys.0
+    taken_lacks (Some p) r is takes e = absurd (let f = takes.0 in cc)
+
+    pub command_lacks : (r : Result (Unit {0}) Stop) → Takes s c r new → r ≡ Err stop.Memory → MayLack lines x
+    command_lacks r takes e = taken_lacks (turned_away s (verb_of_command c)) r refl takes e
+
+-- Memory is wanting in the opening alone.
+
+opening_by : (p : Phase) (v : Verb) (b : Bool) → allows phase.Reviewing v ≡ false → allows phase.Closed v ≡ false → allows phase.Drawn v ≡ false → (not (allows p v) || b) ≡ false → p ≡ phase.Opening
+opening_by phase.Opening v b r c d h = refl
+opening_by phase.Reviewing v b r c d h = absurd (true≢false (sym (ap (λ t. not t || b) r) ∙ h))
+opening_by phase.Closed v b r c d h = absurd (true≢false (sym (ap (λ t. not t || b) c) ∙ h))
+opening_by phase.Drawn v b r c d h = absurd (true≢false (sym (ap (λ t. not t || b) d) ∙ h))
+
+away_none : (a l o : Bool) → (if a then Some reason.Later else if l then Some reason.NoCall else if o then Some reason.Order else None) ≡ None → o ≡ false
+away_none true l o h = cc
+away_none false true o h = cc
+away_none false false true h = cc
+away_none false false false h = refl
+
+in_opening : (s : State) (v : Verb) → allows phase.Reviewing v ≡ false → allows phase.Closed v ≡ false → allows phase.Drawn v ≡ false → turned_away s v ≡ None → s.phase ≡ phase.Opening
+in_opening s v r c d free =
+    opening_by s.phase v (is_call v && is_some s.call) r c d (away_none (awaits v) (not (is_some s.call || is_call v)) (not (allows s.phase v) || (is_call v && is_some s.call)) free)
+
+pub lacks_opening : (s : State) (c : Command) → StateMayLack s c → turned_away s (verb_of_command c) ≡ None → s.phase ≡ phase.Opening
+lacks_opening s (command.Call call) h free = absurd h
+lacks_opening s (command.Applicant name person) h free = in_opening s verb.Applicant refl refl refl free
+lacks_opening s (command.Conflict person proposal) h free = absurd h
+lacks_opening s (command.Place person cluster) h free = absurd h
+lacks_opening s (command.Partition seed) h free = absurd h
+lacks_opening s (command.Pair person proposal) h free = in_opening s verb.Pair refl refl refl free
+lacks_opening s (command.Seal digest) h free = absurd h
+lacks_opening s command.Assign h free = in_opening s verb.Assign refl refl refl free
+lacks_opening s command.Close h free = absurd h
+lacks_opening s (command.Draw n) h free = absurd h
+lacks_opening s (command.Lottery seed) h free = absurd h
+
+-- A line of the house is neither blank nor a review line.
+house_alone : (x : Text) → is_house x ≡ true → (is_blank x || is_review x) ≡ true → ⊥
+unfolding is_house
+house_alone x h k = parts (is_blank x) (is_review x) h k where
+  parts : (a b : Bool) → (not a && not b) ≡ true → (a || b) ≡ true → ⊥
+  parts true b h k = cc
+  parts false true h k = cc
+  parts false false h k = cc
+
+pub bad_no_review : (x : Text) (v : Verb) (r : Reason) → IsBadLine x v r → (is_blank x || is_review x) ≡ true → ⊥
+bad_no_review x v r bad h = house_alone x bad.house h
+
+pub command_no_review : (x : Text) (c : Command) → IsCommandLine x c → (is_blank x || is_review x) ≡ true → ⊥
+command_no_review x c line h = house_alone x line.house h

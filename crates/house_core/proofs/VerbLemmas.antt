@@ -1,15 +1,14 @@
-use Rattle.std.proofs.Common.{◌≡◌, ℕ, suc, true, false, eqb, List, [], ◌∷◌, length, refl, sym, ap, ◌∙◌, inl, inr}
+-- What commands a line has.
+use Rattle.std.proofs.Common.{◌≡◌, ℕ, true, false, eqb, List, [], ◌∷◌, refl, ap, inl, inr}
 use Rattle.std.specs.Prelude.{slice_get, slice_index, codes}
 use Rattle.std.specs.Option.{option_map_or}
 use Rattle.std.specs.Str.{bytes_eq}
 use Rattle.std.proofs.lemmas.Slice.Eq.{bytes_eq-Decides}
-use Rattle.std.proofs.lemmas.Bool.{eqb-true, or_cases, cases_Bool, true≢false}
+use Rattle.std.proofs.lemmas.Bool.{eqb-true, or_cases}
 use Rattle.house_model.specs.declared.verb.Verb.{Verb}
 use Rattle.house_model.specs.declared.verb.Verb.TheVariants as verb
 use Rattle.house_model.specs.Text.{Text, words, word, is_blank, is_empty}
-use Rattle.house_model.specs.Verbs.{verb_of, verb_in, verb_number, commands, is_review, is_house}
-use Rattle.house_core.specs.Reading.{IsHouseLine, argument}
-use Rattle.house_core.proofs.LineLemmas.{verb_by_first}
+use Rattle.house_model.specs.Verbs.{verb_of, verb_in, verb_number, commands, is_review}
 
 -- a comment's first word commands nothing
 verb_of_comment : (b : ℕ) (w : Text) → b ≡ 35 → verb_of (b ∷ w) ≡ verb.Other
@@ -58,35 +57,3 @@ review_other line h = ap verb_of ((bytes_eq-Decides (word line 0) (codes "review
 -- whether a line has a command, by what it has
 pub commands_is : (line : Text) (v w : Verb) → verb_in line ≡ v → commands w line ≡ eqb (verb_number v) (verb_number w)
 commands_is line v w h = ap (λ u. eqb (verb_number u) (verb_number w)) h
-
-not_other : (v : Verb) → eqb (verb_number v) 11 ≡ false → v ≡ verb.Other → ⊥
-not_other v other h = true≢false (sym (ap (λ u. eqb (verb_number u) 11) h) ∙ other)
-
--- a line with a command is the house's
-pub house_by_verb : (line : Text) (v : Verb) → verb_in line ≡ v → eqb (verb_number v) 11 ≡ false → is_house line ≡ true
-unfolding is_house
-house_by_verb line v h other =
-    let blank : is_blank line ≡ false = elim (cases_Bool (is_blank line)) [
-      | inl is ↦ absurd (not_other v other (sym h ∙ blank_other line is))
-      | inr is_not ↦ is_not
-    ] in
-    let review : is_review line ≡ false = elim (cases_Bool (is_review line)) [
-      | inl is ↦ absurd (not_other v other (sym h ∙ review_other line is))
-      | inr is_not ↦ is_not
-    ] in
-    rw (blank, review) refl
-
--- what a line of the house is
-pub line_is_house : (line : Text) (v : Verb) (args : List Text) → IsHouseLine line v args → is_house line ≡ true
-unfolding is_house
-line_is_house line v args h = rw (h.not_blank, h.not_review) refl
-
-pub line_verb : (line : Text) (v : Verb) (args : List Text) → IsHouseLine line v args → verb_in line ≡ v
-line_verb line v args h = verb_by_first line h.first args h.words ∙ h.verb
-
-pub line_word : (line : Text) (v : Verb) (args : List Text) (i : ℕ) → IsHouseLine line v args → word line (suc i) ≡ argument args i
-unfolding word
-line_word line v args i h = ap (λ all. option_map_or (λ w. w) (slice_get all (suc i)) []) h.words
-
-pub line_length : (line : Text) (v : Verb) (args : List Text) → IsHouseLine line v args → length (words line) ≡ suc (length args)
-line_length line v args h = ap (λ all. length all) h.words

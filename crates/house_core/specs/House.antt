@@ -1,12 +1,17 @@
-use Rattle.std.specs.Prelude.{◌≡◌, ℕ, ◌+◌, Option, Some, None, length}
+use Rattle.std.specs.Prelude.{◌≡◌, ℕ, ◌+◌, ◌<◌, Option, Some, None, length}
 use Rattle.house_base.specs.Answer.{raised}
 use Rattle.house_base.specs.declared.answer.Reason.{Reason}
-use Rattle.house_base.specs.declared.answer.Took.TheVariants as took
+use Rattle.house_base.specs.declared.answer.Took.{Took}
 use Rattle.house_model.specs.declared.goal.Goal.{Goal}
 use Rattle.house_model.specs.Text.{Lines}
 use Rattle.house_model.specs.Ending.{in_force, stop_of}
 use Rattle.house_model.specs.Transitional.{refusal}
-use Rattle.house_core.specs.Standing.{Says}
+use Rattle.house_base.specs.Setting.{size}
+use Rattle.house_model.specs.declared.goal.Goal.TheVariants as goal
+use Rattle.house_model.specs.Reviews.{points_of}
+use Rattle.house_model.specs.Said.{setting, assigned}
+use Rattle.review_desk.specs.Desk.{Marks, points_at}
+use Rattle.house_core.specs.Standing.{HoldsPairs, Says}
 use Rattle.house_core.specs.declared.state.State.{State}
 use Rattle.house_core.specs.declared.state.Stop.{Stop}
 use Rattle.house_core.specs.declared.state.Stop.TheVariants as stop
@@ -38,14 +43,26 @@ pub record StandsFor (g : Goal) (lines : Lines) (house : Standing) : Type 0 wher
   pub stop : StopsAs house.stop house.lines (stop_of (refusal g) lines)
   pub says : Says (in_force (refusal g) lines) house.state
 
--- the answer to a line where the lines with it stop as given; want of memory is free
-abbrev pub IsStep : Option (ℕ × Reason) → Step → Type 0
-IsStep None (step.Going took.Kept) = Unit {0}
-IsStep (Some at) (step.Refused line reason) = (line ≡ at.0) × (reason ≡ at.1)
-IsStep list step.Memory = Unit {0}
-IsStep list answer = ⊥
+-- the answer to a line where the lines with it stop as given, and what becomes of the line where they don't; want
+-- of memory is free
+abbrev pub IsStep : Option (ℕ × Reason) → Took → Step → Type 0
+IsStep None took (step.Going answer) = answer ≡ took
+IsStep (Some at) took (step.Refused line reason) = (line ≡ at.0) × (reason ≡ at.1)
+IsStep list took step.Memory = Unit {0}
+IsStep list took answer = ⊥
 
 -- the answer of a house that has stopped
 abbrev pub stopped_step : ℕ → Stop → Step
 stopped_step lines (stop.Refused reason) = step.Refused (raised lines) reason
 stopped_step lines stop.Memory = step.Memory
+
+-- an answer after which the run goes on
+abbrev pub IsGoing : Step → Type 0
+IsGoing (step.Going took) = Unit {0}
+IsGoing answer = ⊥
+
+-- The desk is what these lines say: the pairs of their assignment, and their points.
+pub record IsDeskOf (lines : Lines) (desk : Marks) : Type 0 where
+  pub pairs : HoldsPairs (setting lines) (assigned goal.Run lines) desk.pairs
+  pub points : (a b : ℕ) → a < size (setting lines) → b < size (setting lines) →
+      points_at desk a b ≡ points_of lines a b

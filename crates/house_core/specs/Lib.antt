@@ -1,9 +1,4 @@
-pub mod Book
 pub mod Ends
 pub mod House
-pub mod Outcome
-pub mod Reading
 pub mod Standing
 pub mod Stops
-pub mod Weighed
-pub mod Written

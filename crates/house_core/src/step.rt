@@ -1,3 +1,5 @@
+//! The answers of a run.
+
 use house_base::{Memory, Reason, Took};
 
 /// What a line did to a run.

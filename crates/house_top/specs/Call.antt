@@ -1,6 +1,7 @@
 -- How a call ends, and what it writes.
 use Rattle.std.specs.Prelude.{◌≡◌, ℕ, List, [], ◌∷◌, map, String, string_bytes, codes}
-use Rattle.house_model.specs.Due.{Due, due, due_text}
+use Rattle.house_model.specs.Due.{Due, due, due_text, ran}
+use Rattle.house_model.specs.Headline.{AreOfCall}
 use Rattle.house_model.specs.Text.{Text}
 use Rattle.house_top.specs.declared.status.Status.{Status}
 use Rattle.house_top.specs.declared.status.Status.TheVariants as status
@@ -33,7 +34,8 @@ IsWhole status.WriteFault = ⊥
 IsWhole status.Memory = ⊥
 IsWhole s = Unit {0}
 
--- the status and the text that are due
-pub record IsDueAnswer (words : List Text) (input : List ℕ) (status : Status) (text : List ℕ) : Type 0 where
-  pub ends : status ≡ status_of (due words input)
+-- the status and the text that are due, and, where the report is, the lines are those of a whole call
+pub record IsDueAnswer (words : List Text) (input : List ℕ) (s : Status) (text : List ℕ) : Type 0 where
+  pub ends : s ≡ status_of (due words input)
   pub writes : text ≡ due_text words input
+  pub runs : s ≡ status.Done → AreOfCall (ran input)

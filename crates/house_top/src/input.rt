@@ -1,11 +1,11 @@
 //! Input, read to its end.
 
-ghost use Rattle.std.specs.Prelude.{◌≡◌, ◌≤◌, IfOk, IfErr, IfSome, IsErrOf, vec_len, true, false};
+ghost use Rattle.std.specs.Prelude.{◌≡◌, ◌≤◌, IfOk, IfErr, IsErrOf, vec_len, true, false};
 ghost use Rattle.house_io.specs.Faults.{Rose};
 ghost use Rattle.house_model.specs.Heard.{is_over};
-ghost use Rattle.house_top.specs.Input.{Reads, WithinWhereTold};
+ghost use Rattle.house_top.specs.Input.{ReadsWhereTold, WithinWhereTold};
 
-use crate::lines::is_over;
+use command_text::within;
 use house_io::Source;
 use house_model::limits::MOST_BYTES;
 use std::alloc::{AllocError, Global};
@@ -35,7 +35,7 @@ impl From<AllocError> for InputFault {
 
 /// Reads an input to its end, or until what was read is over the limits.
 pub fn read_all<I: Source>(alloc: Global, input: &mut I) -> Result<Vec<u8>, InputFault>
-    ensures read { IfOk result (λ bytes. IfSome (I.left input.old) (λ before. Reads before bytes.items)) }
+    ensures read { IfOk result (λ bytes. ReadsWhereTold (I.left input.old) (I.left input.new) bytes.items) }
     ensures failed { IsErrOf result InputFault.Failed → Rose (I.faults input.old) (I.faults input.new) }
     ensures within { IsErrOf result InputFault.Failed → WithinWhereTold (I.left input.old) (I.left input.new) }
     ensures never_falls { I.faults input.old ≤ I.faults input.new }
@@ -58,10 +58,10 @@ fn failed(bytes: Vec<u8>) -> Result<Vec<u8>, InputFault>
     ensures over { IfOk result (λ same. (same.items ≡ bytes.items) × (is_over same.items ≡ true)) }
     ensures within { IfErr result (λ why. (why ≡ InputFault.Failed) × (is_over bytes.items ≡ false)) }
 {
-    if is_over(&bytes) {
-        Ok(bytes)
-    } else {
+    if within(&bytes) {
         Err(InputFault::Failed)
+    } else {
+        Ok(bytes)
     }
 }
 

@@ -1,8 +1,8 @@
 //! The program as one call over what it reads from, writes to and keeps files in.
+
 #![tactic(auto)]
 
 pub mod input;
-pub mod lines;
 pub mod output;
 pub mod run;
 pub mod status;

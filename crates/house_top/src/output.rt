@@ -9,7 +9,8 @@ use house_io::{Failed, Sink};
 /// Gives all of a text.
 pub fn give_all<O: Sink>(output: &mut O, text: &[u8]) -> Result<(), Failed>
     ensures whole { OnOk result (AppendsWhereTold (O.given output.old) (O.given output.new) text.now) }
-    ensures front { OnErr result ((count : ℕ) × AppendsWhereTold (O.given output.old) (O.given output.new) (take count text.now)) }
+    ensures front { OnErr result ((count : ℕ)
+        × AppendsWhereTold (O.given output.old) (O.given output.new) (take count text.now)) }
     ensures failed { OnErr result (Rose (O.faults output.old) (O.faults output.new)) }
     ensures never_falls { O.faults output.old ≤ O.faults output.new }
 {

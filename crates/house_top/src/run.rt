@@ -1,24 +1,26 @@
 //! The call of the program.
 
-ghost use Rattle.std.specs.Prelude.{ℕ, take, ◌≡◌, ◌↔◌, ◌≤◌, ◌-◌, ◌^◌, false, length, IfOk, IfSome, ◌⊎◌};
+ghost use Rattle.std.specs.Prelude.{ℕ, take, ◌≡◌, ◌≢◌, ◌↔◌, ◌≤◌, ◌-◌, ◌^◌, false, length, IfOk, IfSome, ◌⊎◌};
 ghost use Rattle.house_core.specs.Ends.{EndsAs};
 ghost use Rattle.house_io.specs.Faults.{Rose};
 ghost use Rattle.house_io.specs.Sink.{AppendsWhereTold};
-ghost use Rattle.house_model.specs.Due.{due, due_text, is_run};
+ghost use Rattle.house_model.specs.Due.{due, due_text, is_run, ran};
+ghost use Rattle.house_model.specs.Headline.{ChancesAreCounted, OwnReviewsChangeNoChance, SeatsAreQuotasRounded, QuotasAreMeans};
 ghost use Rattle.house_model.specs.Text.{lines};
 ghost use Rattle.house_model.specs.Transitional.{end_of};
 ghost use Rattle.house_model.specs.declared.limits.TheConstants.{MOST_LINES};
 ghost use Rattle.house_top.specs.Call.{texts, run_words, status_of, IsDue, IsDueAnswer, IsWhole};
-ghost use Rattle.house_top.specs.Input.{WithinWhereTold};
+ghost use Rattle.house_top.specs.Input.{EndsWhereTold, WithinWhereTold};
 
 use crate::input::{InputFault, read_all};
-use crate::lines::{first_line, is_over};
 use crate::output::give_all;
 use crate::status::Status;
+use command_text::{first_line, within};
 use house_base::Memory;
-use house_core::{EndFault, House, Outcome, Step, write_refused, write_report};
+use house_core::{EndFault, House, Step};
 use house_io::{Shelf, Sink, Source};
 use house_model::Goal;
+use report_text::{Outcome, write_refused, write_report};
 use std::alloc::Global;
 
 /// How a call ends, with the text that it writes.
@@ -51,9 +53,23 @@ pub fn house<I: Source, O: Sink, F: Shelf>(
     ensures whole_text { IfSome (I.left input.old) (λ bytes. IsWhole result →
         AppendsWhereTold (O.given output.old) (O.given output.new) (due_text (texts words.now.items) bytes)) }
     ensures write_fault_front { IfSome (I.left input.old) (λ bytes. result ≡ Status.WriteFault →
-        (count : ℕ) × AppendsWhereTold (O.given output.old) (O.given output.new) (take count (due_text (texts words.now.items) bytes))) }
+        (count : ℕ) × AppendsWhereTold (O.given output.old) (O.given output.new)
+        (take count (due_text (texts words.now.items) bytes))) }
     ensures read_fault_writes_nothing { result ≡ Status.ReadFault → output.new ≡ output.old }
     ensures memory_writes_nothing { result ≡ Status.Memory → output.new ≡ output.old }
+
+    // What the report says, where it is given.
+    ensures chances_are_counted { result ≡ Status.Done → IfSome (I.left input.old)
+        (λ bytes. ChancesAreCounted (ran bytes)) }
+    ensures own_reviews_change_no_chance { result ≡ Status.Done →
+        IfSome (I.left input.old) (λ bytes. OwnReviewsChangeNoChance (ran bytes)) }
+    ensures seats_are_quotas_rounded { result ≡ Status.Done →
+        IfSome (I.left input.old) (λ bytes. SeatsAreQuotasRounded (ran bytes)) }
+    ensures quotas_are_means { result ≡ Status.Done → IfSome (I.left input.old) (λ bytes. QuotasAreMeans (ran bytes)) }
+
+    // The input was read to its end, or until what was read is over the limits.
+    ensures read_to_end { result ≢ Status.Usage → result ≢ Status.ReadFault → result ≢ Status.Memory →
+        EndsWhereTold (I.left input.old) (I.left input.new) }
 
     // What is left as it was.
     ensures usage_reads_nothing { result ≡ Status.Usage → input.new ≡ input.old }
@@ -90,7 +106,7 @@ fn answer_to(alloc: Global, input: &[u8]) -> Result<Answer, Memory>
     ensures { IfOk result (λ answer. IsDueAnswer run_words input.now answer.status answer.text.items) }
 {
     let mut text = Vec::new(alloc);
-    if is_over(input) {
+    if !within(input) {
         text.extend_from_slice(b"too-long\n")?;
         return Ok(Answer {
             status: Status::TooLong,

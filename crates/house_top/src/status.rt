@@ -1,3 +1,5 @@
+//! How a call of the program ended.
+
 ghost use Rattle.std.specs.Prelude.{◌≡◌};
 ghost use Rattle.house_top.specs.Exit.{exit_of};
 

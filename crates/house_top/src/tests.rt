@@ -1,3 +1,5 @@
+//! Tests of whole calls of the program.
+
 use crate::{Status, house};
 use house_base::Reason;
 use house_io::{InputSource, MapShelf, OutputSink, PlainSink, PlainSource};
@@ -29,10 +31,10 @@ aside 0 0 0 0 0 0
 draw 0/4000000
 cluster 1 cents 2000000 quota 4000000/4000000 seats 1 filled 1
 cluster 2 cents 2000000 quota 4000000/4000000 seats 1 filled 1
-applicant a cluster 1 rank 1 cents 1000000 yes
-applicant b cluster 1 rank 2 cents 1000000 no
-applicant c cluster 2 rank 1 cents 1000000 yes
-applicant d cluster 2 rank 2 cents 1000000 no
+applicant a cluster 1 rank 1 cents 1000000 chance 4000000/4000000 yes
+applicant b cluster 1 rank 2 cents 1000000 chance 0/4000000 no
+applicant c cluster 2 rank 1 cents 1000000 chance 4000000/4000000 yes
+applicant d cluster 2 rank 2 cents 1000000 chance 0/4000000 no
 empty 0
 ";
 
@@ -86,10 +88,16 @@ fn refuses(rt: HostRuntime) -> Result<(), Fail> {
         (
             "call 1 2 1\napplicant Bob\n",
             2,
+            Reason::Name,
+            "refused 2 name\n",
+        ),
+        (
+            "call 1 2 1\npartition 7\n",
+            2,
             Reason::Later,
             "refused 2 later\n",
         ),
-        ("", 1, Reason::Later, "refused 1 later\n"),
+        ("", 1, Reason::NoCall, "refused 1 no-call\n"),
     ];
     for (input, line, reason, text) in calls {
         let ended = call(rt.alloc(), &["run"], input)?;

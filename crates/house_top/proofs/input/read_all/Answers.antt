@@ -22,8 +22,10 @@ loop-buffer-preserved g c = record {
 pub returns-clause-read : goal.returns-clause-read
 returns-clause-read g c =
     elim c.loop-buffer-test.branch [
-      | else-loop-buffer-test w ↦ read_enough (g.I.Source.left c.args.input.now) (g.I.Source.left c.loop-buffer.input) c.loop-buffer.bytes.items c.loop-buffer.invariant.taken
-          (over_by_bytes c.loop-buffer.bytes.items (omega arith))
-      | then-loop-buffer-test+in-Ok-eq0 w ↦ read_to_end (g.I.Source.left c.args.input.now) (g.I.Source.left c.loop-buffer.input) c.loop-buffer.bytes.items c.loop-buffer.invariant.taken
-          (w.take.ensures.end (w.in-Ok-eq0.is ∙ ap Ok w.in-Ok-eq0.field-0-test) (omega (arith, c.in_ok-piece.ensures)))
+      | else-loop-buffer-test w ↦ rw w.input-is (read_enough (g.I.Source.left c.args.input.now) (g.I.Source.left c.loop-buffer.input) c.loop-buffer.bytes.items c.loop-buffer.invariant.taken
+          (over_by_bytes c.loop-buffer.bytes.items (omega arith)))
+      | then-loop-buffer-test+in-Ok-eq0 w ↦
+          let none = w.in-Ok-eq0.is ∙ ap Ok w.in-Ok-eq0.field-0-test in
+          rw w.input-is (read_to_end (g.I.Source.left c.args.input.now) (g.I.Source.left c.loop-buffer.input) (g.I.Source.left w.take.new.self) c.loop-buffer.bytes.items _
+          c.loop-buffer.invariant.taken (w.take.ensures.end none (omega (arith, c.in_ok-piece.ensures))) (rw none at w.take.ensures.taken))
     ]

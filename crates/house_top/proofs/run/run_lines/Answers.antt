@@ -16,6 +16,6 @@ pub returns-in-Refused : goal.returns-in-Refused
 returns-in-Refused c =
     let so_far = c.loop-line.invariant.0 in
     let few = countable (lines c.args.input.now) so_far (lines c.loop-line.rest.now) c.loop-line.invariant.2 c.requires in
-    refused_as (lines c.args.input.now) so_far c.in-Some.line.now (lines c.in-Some.after.now) c.in-Refused.line c.in-Refused.reason
+    refused_as (lines c.args.input.now) so_far c.in-Some.line.now (lines c.in-Some.after.now) _ c.in-Refused.line c.in-Refused.reason
     (ap (λ rest. so_far ++ rest) (sym c.in-Some.ensures.found) ∙ c.loop-line.invariant.2)
     (c.in-Refused.ensures.step so_far c.loop-line.invariant.1 few)

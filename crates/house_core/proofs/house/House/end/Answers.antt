@@ -1,5 +1,8 @@
 use Rattle.std.proofs.Common.{sym}
-use Rattle.house_core.proofs.EndLemmas.{end_stopped, end_without_call, end_undrawn, end_unassigned, end_outcome}
+use Rattle.house_base.specs.Grid.{cell}
+use Rattle.review_desk.specs.Desk.{points_at}
+use Rattle.seat_quota.specs.Tally.{IsTally}
+use Rattle.house_core.proofs.EndLemmas.{drawn_below, end_stopped, end_without_call, end_undrawn, end_done}
 use Rattle.house_core.proofs.house.House.end.Goals as goal
 
 pub returns-in-Some-clause-ends : goal.returns-in-Some-clause-ends
@@ -17,13 +20,11 @@ returns-then-not-is_drawn-clause-ends c = λ lines is few.
     let here = rw (← c.self.view_is) at is in
     rw c.saturating_add-then-not-is_drawn.ensures (end_undrawn lines _ here c.in_default.is few c.if-is_none.ensures (sym c.if-not-is_drawn.ensures))
 
-pub returns-in-Some-round-clause-ends : goal.returns-in-Some-round-clause-ends
-returns-in-Some-round-clause-ends c = λ lines is few.
+pub returns-in-Ok-clause-ends : goal.returns-in-Ok-clause-ends
+returns-in-Ok-clause-ends c = λ lines is few.
     let here = rw (← c.self.view_is) at is in
-    end_outcome lines _ c.in-Some-round.round _ here c.in_default.is few c.if-is_none.ensures (sym c.if-not-is_drawn.ensures) c.in-Some-round.is
-    (rw c.in-Some-round.is at c.self.invariant.round) c.outcome_of.ensures.ok c.outcome_of.ensures.err
-
-pub returns-in-None-clause-ends : goal.returns-in-None-clause-ends
-returns-in-None-clause-ends c = λ lines is few.
-    let here = rw (← c.self.view_is) at is in
-    absurd (end_unassigned lines _ here c.in_default.is few c.in-None.is (sym c.if-not-is_drawn.ensures))
+    let round = c.in-Some-round.round in
+    let tally : IsTally round.plan round.tally = rw c.in-Some-round.is at c.self.invariant.tallied in
+    end_done lines _ here c.in_default.is few round c.in-Ok.outcome c.if-is_none.ensures (sym c.if-not-is_drawn.ensures) c.in-Some-round.is tally
+    (drawn_below _ round c.self.invariant c.in-Some-round.is (sym c.if-not-is_drawn.ensures))
+    (c.in-Ok.ensures (cell round.tally.desk.pairs) (points_at round.tally.desk) (record { setting = tally.desk.setting; valid = tally.desk.valid }) (rw c.totals-totals.ensures tally.agree))

@@ -4,7 +4,7 @@ use Rattle.house_core.proofs.state.State.enter.Goals as goal
 
 pub returns-in-Ok-clause-obeys : goal.returns-in-Ok-clause-obeys
 returns-in-Ok-clause-obeys c = (
-  entered c.args.self.now.book c.args.name c.args.person c.in-Ok.ensures.known c.in-Ok.ensures.too_many,
+  entered c.args.self.now c.args.name c.args.person c.in-Ok.ensures.known c.in-Ok.ensures.too_many,
   rw c.in-Ok.ensures.added refl,
 )
 

@@ -1,44 +1,65 @@
 use Rattle.std.proofs.Common.{◌≡◌, sym, ap, ◌∙◌, Some, Err}
-use Rattle.house_base.specs.declared.answer.Reason.TheVariants as reason
 use Rattle.house_core.specs.declared.state.Stop.TheVariants as stop
-use Rattle.house_core.proofs.RefusalLemmas.{review_refused}
-use Rattle.house_core.proofs.SaysLemmas.{blank_says}
-use Rattle.house_core.proofs.TakeLemmas.{read_formed, bad_refused, bad_not_admitted, house_not_admitted, house_obeyed, house_refused, house_lacks}
+use Rattle.house_core.proofs.RefusalLemmas.{blank_not_refused, review_not_refused}
+use Rattle.house_core.proofs.SaysLemmas.{blank_says, blank_kept, review_taken}
+use Rattle.house_core.proofs.TakeLemmas.{read_formed, bad_not_taken, bad_not_read, bad_no_review, command_ok, command_kept, command_refused, command_lacks, command_no_review}
 use Rattle.house_core.proofs.state.State.take.Goals as goal
 
-pub obey-requires-clause-formed : goal.obey-requires-clause-formed
-obey-requires-clause-formed c = read_formed _ _ _ c.in-House.ensures.3
+pub take_command-requires-clause-formed : goal.take_command-requires-clause-formed
+take_command-requires-clause-formed c = read_formed _ _ c.in-House.ensures
 
 pub returns-in-Blank-clause-ok : goal.returns-in-Blank-clause-ok
-returns-in-Blank-clause-ok c = λ lines says. blank_says lines _ _ says c.in-Blank.ensures
+returns-in-Blank-clause-ok c = λ lines says. blank_not_refused lines _ c.in-Blank.ensures
 
-pub returns-in-Review-clause-refused : goal.returns-in-Review-clause-refused
-returns-in-Review-clause-refused c = λ lines says r e.
-    let same : reason.Later ≡ r = cc in
-    review_refused lines _ c.in-Review.ensures.1 ∙ ap Some same
+pub returns-in-Blank-clause-took : goal.returns-in-Blank-clause-took
+returns-in-Blank-clause-took c = λ lines says. blank_kept lines _ c.in-Blank.ensures
 
-pub returns-in-Ok-clause-refused : goal.returns-in-Ok-clause-refused
-returns-in-Ok-clause-refused c = λ lines says r e.
+pub returns-in-Blank-clause-says : goal.returns-in-Blank-clause-says
+returns-in-Blank-clause-says c = λ lines says. blank_says lines _ _ says c.in-Blank.ensures
+
+pub returns-in-Review-clause-ok : goal.returns-in-Review-clause-ok
+returns-in-Review-clause-ok c = λ lines says. review_not_refused lines _ c.in-Review.ensures.1
+
+pub returns-in-Review-clause-took : goal.returns-in-Review-clause-took
+returns-in-Review-clause-took c = λ lines says. (review_taken lines _ _ _ _ says c.requires c.in-Review.ensures.1 (rw c.in-Review.ensures.2 at c.review.ensures.reviews)).0
+
+pub returns-in-Review-clause-says : goal.returns-in-Review-clause-says
+returns-in-Review-clause-says c = λ lines says. (review_taken lines _ _ _ _ says c.requires c.in-Review.ensures.1 (rw c.in-Review.ensures.2 at c.review.ensures.reviews)).1
+
+pub returns-in-Some-clause-refused : goal.returns-in-Some-clause-refused
+returns-in-Some-clause-refused c = λ lines says r e.
+    let same : c.in-Some.sooner ≡ r = cc in
+    bad_not_taken lines _ _ says c.in-Bad.verb c.in-Bad.reason c.in-Some.sooner c.in-Bad.ensures (sym c.turned_away.ensures ∙ c.in-Some.is) ∙ ap Some same
+
+pub returns-in-Some-clause-none_by_review : goal.returns-in-Some-clause-none_by_review
+returns-in-Some-clause-none_by_review c = λ h. absurd (bad_no_review _ _ _ c.in-Bad.ensures h)
+
+pub returns-in-None-clause-refused : goal.returns-in-None-clause-refused
+returns-in-None-clause-refused c = λ lines says r e.
     let same : c.in-Bad.reason ≡ r = cc in
-    bad_refused lines _ _ c.in-Bad.verb c.in-Bad.reason c.in-Bad.ensures says (sym c.admit.ensures ∙ c.in-Ok.is) ∙ ap Some same
+    bad_not_read lines _ _ says c.in-Bad.verb c.in-Bad.reason c.in-Bad.ensures (sym c.turned_away.ensures ∙ c.in-None.is) ∙ ap Some same
+
+pub returns-in-None-clause-none_by_review : goal.returns-in-None-clause-none_by_review
+returns-in-None-clause-none_by_review c = λ h. absurd (bad_no_review _ _ _ c.in-Bad.ensures h)
+
+pub returns-in-Ok-clause-ok : goal.returns-in-Ok-clause-ok
+returns-in-Ok-clause-ok c = λ lines says. (rw c.in-Ok.is at (command_ok lines _ _ says c.in-House.command c.in-House.ensures _ _ c.take_command.ensures.takes)).0
+
+pub returns-in-Ok-clause-took : goal.returns-in-Ok-clause-took
+returns-in-Ok-clause-took c = λ lines says. command_kept lines _ _ says c.in-House.command c.in-House.ensures
+
+pub returns-in-Ok-clause-says : goal.returns-in-Ok-clause-says
+returns-in-Ok-clause-says c = λ lines says. (rw c.in-Ok.is at (command_ok lines _ _ says c.in-House.command c.in-House.ensures _ _ c.take_command.ensures.takes)).1
 
 pub returns-in-Err-clause-refused : goal.returns-in-Err-clause-refused
 returns-in-Err-clause-refused c = λ lines says r e.
     let same : c.in-Err.stop ≡ stop.Refused r = cc in
-    bad_not_admitted lines _ _ c.in-Bad.verb c.in-Bad.reason r c.in-Bad.ensures says (sym c.admit.ensures ∙ c.in-Err.is ∙ ap Err same)
+    command_refused lines _ _ says c.in-House.command c.in-House.ensures _ _ r c.take_command.ensures.takes (c.in-Err.is ∙ ap Err same)
 
-pub returns-in-Ok-admit-clause-ok : goal.returns-in-Ok-admit-clause-ok
-returns-in-Ok-admit-clause-ok c = λ lines says. house_obeyed lines _ _ c.in-House.command _ _ c.in-House.ensures says (rw c.verb_of.ensures at (sym c.admit-in-House.ensures) ∙ c.in-Ok-admit.is) c.obey.ensures.obeys
+pub returns-in-Err-clause-memory : goal.returns-in-Err-clause-memory
+returns-in-Err-clause-memory c = λ lines says e.
+    let same : c.in-Err.stop ≡ stop.Memory = cc in
+    command_lacks lines _ _ says c.in-House.command c.in-House.ensures _ _ c.take_command.ensures.takes (c.in-Err.is ∙ ap Err same)
 
-pub returns-in-Ok-admit-clause-refused : goal.returns-in-Ok-admit-clause-refused
-returns-in-Ok-admit-clause-refused c = λ lines says r e.
-    house_refused lines _ _ c.in-House.command r _ c.in-House.ensures says (rw c.verb_of.ensures at (sym c.admit-in-House.ensures) ∙ c.in-Ok-admit.is) (rw e at c.obey.ensures.obeys)
-
-pub returns-in-Ok-admit-clause-memory : goal.returns-in-Ok-admit-clause-memory
-returns-in-Ok-admit-clause-memory c = λ e.
-    house_lacks _ _ c.in-House.command _ c.in-House.ensures (rw c.verb_of.ensures at (sym c.admit-in-House.ensures) ∙ c.in-Ok-admit.is) (rw e at c.obey.ensures.obeys)
-
-pub returns-in-Err-admit-clause-refused : goal.returns-in-Err-admit-clause-refused
-returns-in-Err-admit-clause-refused c = λ lines says r e.
-    let same : c.in-Err-admit.stop ≡ stop.Refused r = cc in
-    house_not_admitted lines _ _ c.in-House.command r c.in-House.ensures says (rw c.verb_of.ensures at (sym c.admit-in-House.ensures) ∙ c.in-Err-admit.is ∙ ap Err same)
+pub returns-in-Err-clause-none_by_review : goal.returns-in-Err-clause-none_by_review
+returns-in-Err-clause-none_by_review c = λ h. absurd (command_no_review _ _ c.in-House.ensures h)

@@ -1,7 +1,0 @@
-use Rattle.std.proofs.Common.{◌≡◌, ◌++◌, take}
-use Rattle.std.specs.List.{enumerate_from}
-use Rattle.house_core.proofs.FreezeLemmas.{own_rows}
-use Rattle.house_core.proofs.freeze.push_own.Given as goal
-
-abbrev pub invariant-loop-number : goal.invariant-loop-number
-invariant-loop-number l = l.people.items ≡ l.fn.people.items ++ own_rows l.person l.cluster (enumerate_from 0 (take l.number l.applicant-items))

@@ -1,8 +1,0 @@
-use Rattle.std.proofs.Common.{◌≡◌, ◌≤◌, get_or}
-use Rattle.house_model.specs.Counting.{count_below}
-use Rattle.house_core.specs.Outcome.{goes_before}
-use Rattle.house_core.proofs.rank.rank.Given as goal
-
--- those that go before the applicant among the places so far
-abbrev pub invariant-loop-rival : goal.invariant-loop-rival
-invariant-loop-rival l = record { counted : l.before ≡ count_below (λ q. goes_before l.plan (λ p. get_or l.totals.scores p 0) q l.place) l.rival; few : l.before ≤ l.rival }

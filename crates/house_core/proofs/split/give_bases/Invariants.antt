@@ -1,9 +1,0 @@
-use Rattle.std.proofs.Common.{◌≡◌, ℕ, ◌+◌, ◌<◌, get_or}
-use Rattle.house_base.specs.declared.limits.TheConstants.{DOLLAR}
-use Rattle.house_model.specs.Counting.{sum_below}
-use Rattle.house_model.specs.Split.{base_at}
-use Rattle.house_core.proofs.split.give_bases.Given as goal
-
--- what was given and what is left are a dollar
-abbrev pub invariant-loop-i : goal.invariant-loop-i
-invariant-loop-i l = record { whole : sum_below (base_at l.points) l.i + l.left ≡ DOLLAR; given : (k : ℕ) → k < l.i → get_or l.cents k 0 ≡ base_at l.points k }

@@ -2,12 +2,13 @@ use Rattle.std.proofs.Common.{◌≡◌, ◌≢◌, ℕ, ◌+◌, ◌*◌, ◌/�
 use Rattle.std.proofs.lemmas.Bool.{cond-true, cond-false}
 use Rattle.std.proofs.lemmas.Bool.Decides.{nat_tests}
 use Rattle.std.proofs.lemmas.List.{get_or-map, get_or-set_same, get_or-set_other}
-use Rattle.house_base.specs.declared.limits.TheConstants.{DOLLAR}
+use mir.Val.{bool_byte}
+use Rattle.house_base.specs.declared.limits.TheConstants.{DOLLAR, MOST_OWN, MOST_REVIEWS}
 use Rattle.house_model.specs.Counting.{count_below, sum_below}
 use Rattle.house_model.specs.Split.{weights, base_at, remainder_at, left_over, comes_before, cents_at}
 use Rattle.house_model.proofs.CountingLemmas.{one_if, count_below-add_one, count_below-same, sum_below-term, sum_below-same}
 use Rattle.house_model.proofs.SplitLemmas.{left_over-less, cents-sum, sum_below-items}
-use Rattle.dollar_split.specs.Weighed.{is_silent, goes_before, is_among_first, extra_at}
+use Rattle.dollar_split.specs.Weighed.{is_silent, priority_of, is_among_first, extra_at}
 
 -- Weights and shares.
 
@@ -34,20 +35,19 @@ base-less points i l =
     let left = left_over-less points (omega arith) in
     omega (arith, left.0, sum_below-term (base_at points) i (length points) l)
 
--- which of two remainders goes first
-
-pub larger_then : (own other j i : ℕ) → own < other → ltb own other ≡ (ltb own other || (eqb other own && ltb j i))
-larger_then own other j i h = grind (arith, nat_tests)
-
-pub larger_tied : (own other j i : ℕ) → other ≡ own → ltb j i ≡ (ltb own other || (eqb other own && ltb j i))
-larger_tied own other j i h = grind (arith, nat_tests)
-
-pub larger_else : (own other j i : ℕ) → other ≤ own → (other ≡ own → ⊥) → eqb other own ≡ (ltb own other || (eqb other own && ltb j i))
-larger_else own other j i h ne = grind (arith, nat_tests)
+-- the greater priority is that of the greater remainder, and of equal ones that of the one that stands first
+pub priority-order : (own other i j : ℕ) → i < MOST_REVIEWS * MOST_OWN → j < MOST_REVIEWS * MOST_OWN →
+    ltb (priority_of own i) (priority_of other j) ≡ (ltb own other || (eqb other own && ltb j i))
+priority-order own other i j il jl = grind (arith, nat_tests)
 
 -- one more number, which passes a test or not
 pub counted : (test : ℕ → Bool) (n before after : ℕ) (b : Bool) → test n ≡ b → before ≡ count_below test n → after ≡ before + one_if b → after ≡ count_below test (n + 1)
 counted test n before after b h e f = omega (arith, count_below-add_one test n, ap one_if h)
+
+-- a truth value as a number
+pub truth-counts : (b : Bool) → bool_byte b ≡ one_if b
+truth-counts true = refl
+truth-counts false = refl
 
 -- a write behind a front that agrees with a function lengthens it
 pub set_more : (xs : List ℕ) (i v : ℕ) (f : ℕ → ℕ) → i < length xs → ((k : ℕ) → k < i → get_or xs k 0 ≡ f k) → v ≡ f i → (k : ℕ) → k < i + 1 → get_or (set xs i v) k 0 ≡ f k
@@ -60,27 +60,29 @@ set_more xs i v f l h e =
 pub set_later : (xs : List ℕ) (i v k : ℕ) → i + 1 ≤ k → get_or (set xs i v) k 0 ≡ get_or xs k 0
 set_later xs i v k h = let ne : k ≢ i = omega arith in get_or-set_other xs i k v 0 ne
 
--- the remainders of a split go first as the proposals do
-pub among_first-read : (points remainders : List ℕ) (i : ℕ) → length remainders ≡ length points → i < length points →
-    ((k : ℕ) → k < length points → get_or remainders k 0 ≡ remainder_at points k) →
-    is_among_first remainders (left_over points) i ≡ ltb (count_below (λ j. comes_before points j i) (length points)) (left_over points)
+-- by their priorities the proposals of a split go first as by their remainders
+pub among_first-read : (points priorities : List ℕ) (i : ℕ) → length priorities ≡ length points → length points ≤ MOST_REVIEWS * MOST_OWN → i < length points →
+    ((k : ℕ) → k < length points → get_or priorities k 0 ≡ priority_of (remainder_at points k) k) →
+    is_among_first priorities (left_over points) i ≡ ltb (count_below (λ j. comes_before points j i) (length points)) (left_over points)
 unfolding is_among_first comes_before
-among_first-read points remainders i same l h =
+among_first-read points priorities i same few l h =
     let n = length points in
-    let each = count_below-same (λ j. goes_before remainders j i) (λ j. comes_before points j i) n
-    (λ j jl. ap (λ x. ltb (get_or remainders i 0) x || (eqb x (get_or remainders i 0) && ltb j i)) (h j jl)
-    ∙ ap (λ x. ltb x (remainder_at points j) || (eqb (remainder_at points j) x && ltb j i)) (h i l)) in
-    ap (λ c. ltb c (left_over points)) (ap (count_below (λ j. goes_before remainders j i)) same ∙ each)
+    let own = get_or priorities i 0 in
+    let each = count_below-same (λ j. ltb own (get_or priorities j 0)) (λ j. comes_before points j i) n
+    (λ j jl. ap (λ x. ltb own x) (h j jl)
+    ∙ (ap (λ x. ltb x (priority_of (remainder_at points j) j)) (h i l)
+    ∙ priority-order (remainder_at points i) (remainder_at points j) i j (omega arith) (omega arith))) in
+    ap (λ c. ltb c (left_over points)) (ap (count_below (λ j. ltb own (get_or priorities j 0))) same ∙ each)
 
 -- a base with what is left over for it are the cents
-pub cents-from : (points remainders : List ℕ) (i base left : ℕ) → length remainders ≡ length points → i < length points →
-    ((k : ℕ) → k < length points → get_or remainders k 0 ≡ remainder_at points k) →
-    base ≡ base_at points i → left ≡ left_over points → base + extra_at remainders left i ≡ cents_at points i
+pub cents-from : (points priorities : List ℕ) (i base left : ℕ) → length priorities ≡ length points → length points ≤ MOST_REVIEWS * MOST_OWN → i < length points →
+    ((k : ℕ) → k < length points → get_or priorities k 0 ≡ priority_of (remainder_at points k) k) →
+    base ≡ base_at points i → left ≡ left_over points → base + extra_at priorities left i ≡ cents_at points i
 unfolding cents_at
-cents-from points remainders i base left same l h is e =
-    ap (λ b. b + extra_at remainders left i) is
-    ∙ (ap (λ n. base_at points i + extra_at remainders n i) e
-    ∙ ap (λ b. base_at points i + one_if b) (among_first-read points remainders i same l h))
+cents-from points priorities i base left same few l h is e =
+    ap (λ b. b + extra_at priorities left i) is
+    ∙ (ap (λ n. base_at points i + extra_at priorities n i) e
+    ∙ ap (λ b. base_at points i + one_if b) (among_first-read points priorities i same few l h))
 
 -- the cents of a split sum to the dollar
 pub cents-whole : (points cents : List ℕ) → length points ≡ length cents → 1 ≤ length points →

@@ -2,7 +2,7 @@
 
 ghost use Rattle.std.specs.Prelude.{◌≡◌, ℕ, ◌+◌, ◌*◌, ◌<◌, ◌≤◌, All, length, slice_index, sum};
 ghost use Rattle.house_model.specs.Split.{weights, base_at, remainder_at, left_over, cents_at};
-ghost use Rattle.dollar_split.specs.Weighed.{IsSplit, IsWeighed, is_silent, goes_before, is_among_first, extra_at};
+ghost use Rattle.dollar_split.specs.Weighed.{IsSplit, IsWeighed, is_silent, priority_of, is_among_first, extra_at};
 
 use house_base::limits::{DOLLAR, MOST_OWN, MOST_POINTS, MOST_REVIEWS};
 
@@ -24,9 +24,9 @@ pub fn split(points: &[u32], cents: &mut [u32])
     let silent = is_silent(points);
     let total = total_weight(points, silent);
     let mut room = [0; MOST_SHARES];
-    let remainders = &mut room[..points.len()];
-    let left = give_bases(points, silent, total, cents, remainders);
-    give_left_over(remainders, left, cents);
+    let priorities = &mut room[..points.len()];
+    let left = give_bases(points, silent, total, cents, priorities);
+    give_left_over(priorities, left, cents);
 }
 
 /// Whether all points are 0.
@@ -40,7 +40,8 @@ fn is_silent(points: &[u32]) -> bool
 fn total_weight(points: &[u32], silent: bool) -> u32
     requires split { IsSplit points.now }
     requires silent { silent ≡ is_silent points.now }
-    ensures { result ≡ sum (weights points.now) }
+    ensures value { result ≡ sum (weights points.now) }
+    ensures most { result ≤ MOST_REVIEWS * MOST_OWN * MOST_POINTS }
 {
     let mut total = 0;
     for i in 0..points.len() {
@@ -60,70 +61,70 @@ fn weight_at(points: &[u32], silent: bool, i: usize) -> u32
     if silent { 1 } else { points[i] }
 }
 
-/// Gives each proposal its share rounded down, notes what rounding left of each share, over the total weight, and
-/// says how many cents are left over.
+/// Gives each proposal its share rounded down, notes the priority that rounding gives it, and says how many cents
+/// are left over.
 fn give_bases(
     points: &[u32],
     silent: bool,
     total: u32,
     cents: &mut [u32],
-    remainders: &mut [u32],
+    priorities: &mut [u32],
 ) -> u32
     requires weighed { IsWeighed points.now silent total }
     requires cent_each { length points.now ≡ length cents.old }
-    requires remainder_each { length points.now ≡ length remainders.old }
+    requires priority_each { length points.now ≡ length priorities.old }
     ensures left { result ≡ left_over points.now }
-    ensures each { length points.now ≡ length remainders.new }
+    ensures each { length points.now ≡ length priorities.new }
     ensures bases { (i : ℕ) → i < length points.now → slice_index cents.new i ≡ base_at points.now i }
-    ensures remainders { (i : ℕ) → i < length points.now → slice_index remainders.new i ≡ remainder_at points.now i }
+    ensures priorities { (i : ℕ) → i < length points.now →
+        slice_index priorities.new i ≡ priority_of (remainder_at points.now i) i }
 {
     let mut left = DOLLAR;
     for i in 0..points.len() {
         let dollars = DOLLAR * weight_at(points, silent, i);
         let share = dollars / total;
         cents[i] = share;
-        remainders[i] = dollars % total;
+        priorities[i] = priority(dollars % total, i);
         left -= share;
     }
     left
 }
 
-/// Gives the cents left over one each to the greatest remainders.
-fn give_left_over(remainders: &[u32], left: u32, cents: &mut [u32])
-    requires same_length { length remainders.now ≡ length cents.old }
-    requires room { (i : ℕ) → i < length remainders.now → slice_index cents.old i ≤ DOLLAR }
-    ensures { (i : ℕ) → i < length remainders.now →
-        slice_index cents.new i ≡ slice_index cents.old i + extra_at remainders.now left i }
+/// The priority of a proposal for one of the cents left over, which is greater for the greater remainder, and of equal
+/// ones for the smaller distance. So one comparison tells which of two proposals goes first.
+fn priority(remainder: u32, i: usize) -> u32
+    requires remainder { remainder ≤ MOST_REVIEWS * MOST_OWN * MOST_POINTS }
+    requires index { i < MOST_REVIEWS * MOST_OWN }
+    ensures { result ≡ priority_of remainder i }
 {
-    for i in 0..remainders.len() {
-        if is_among_first(remainders, left, i) {
-            cents[i] += 1;
-        }
+    remainder * MOST_SHARES as u32 + (MOST_SHARES - i) as u32
+}
+
+/// Gives the cents left over one each to the greatest priorities.
+fn give_left_over(priorities: &[u32], left: u32, cents: &mut [u32])
+    requires same_length { length priorities.now ≡ length cents.old }
+    requires few { length priorities.now ≤ MOST_REVIEWS * MOST_OWN }
+    requires room { (i : ℕ) → i < length priorities.now → slice_index cents.old i ≤ DOLLAR }
+    ensures { (i : ℕ) → i < length priorities.now →
+        slice_index cents.new i ≡ slice_index cents.old i + extra_at priorities.now left i }
+{
+    for i in 0..priorities.len() {
+        cents[i] += u32::from(is_among_first(priorities, left, i));
     }
 }
 
-/// Whether a remainder is among the first so many: fewer than these go before it.
-fn is_among_first(remainders: &[u32], left: u32, i: usize) -> bool
-    requires { i < length remainders.now }
-    ensures { result ≡ is_among_first remainders.now left i }
+/// Whether a priority is among the first so many: fewer than these are greater. All are compared, without a way out
+/// of the loop, so that several are compared at a time.
+fn is_among_first(priorities: &[u32], left: u32, i: usize) -> bool
+    requires few { length priorities.now ≤ MOST_REVIEWS * MOST_OWN }
+    requires index { i < length priorities.now }
+    ensures { result ≡ is_among_first priorities.now left i }
 {
     let mut before = 0;
-    for j in 0..remainders.len() {
-        if before == left {
-            return false;
-        }
-        if goes_before(remainders, j, i) {
+    for j in 0..priorities.len() {
+        if priorities[j] > priorities[i] {
             before += 1;
         }
     }
     before < left
-}
-
-/// Whether the remainder at j goes before the one at i.
-fn goes_before(remainders: &[u32], j: usize, i: usize) -> bool
-    requires rival { j < length remainders.now }
-    requires index { i < length remainders.now }
-    ensures { result ≡ goes_before remainders.now j i }
-{
-    remainders[j] > remainders[i] || remainders[j] == remainders[i] && j < i
 }

@@ -1,18 +1,20 @@
-use Rattle.std.proofs.Common.{◌≡◌, ◌≢◌, ℕ, ◌+◌, ◌<◌, ◌≤◌, Bool, true, false, ◌&&◌, nat_eq, cond, List, [], ◌∷◌, ◌++◌, length, map, get_or, sym, ap, subst, ◌∙◌, arith}
-use Rattle.std.proofs.lemmas.Bool.{cond-false, ne_eqb}
-use Rattle.std.proofs.lemmas.List.{get_or-map, length-map, map-append}
+use Rattle.std.proofs.Common.{◌≡◌, ◌≢◌, ℕ, ◌+◌, ◌<◌, ◌≤◌, Bool, true, false, ◌&&◌, nat_eq, cond, List, [], ◌∷◌, ◌++◌, length, map, get_or, set, refl, sym, ap, subst, ◌∙◌, inl, inr, arith, below_more}
+use Rattle.std.proofs.lemmas.Bool.{cond-false, cases_eq, ne_eqb}
+use Rattle.std.proofs.lemmas.List.{get_or-map, get_or-set_same, get_or-set_other, length-map, length-set, map-append}
+use Rattle.std.proofs.Math.ListN.{get_or-append}
+use Rattle.std.proofs.Math.Seq.{get_or-append_seam}
 use Rattle.house_base.specs.declared.limits.TheConstants.{DOLLAR, MOST_POINTS}
 use Rattle.house_base.specs.Grid.{Square, cell}
 use Rattle.house_base.specs.Setting.{Setting, size}
 use Rattle.house_model.specs.Counting.{numbers_below}
-use Rattle.house_model.specs.Profile.{Profile, row, cents, score, is_valid}
+use Rattle.house_model.specs.Profile.{row, cents, score, is_valid}
 use Rattle.house_model.specs.Split.{cents_at}
-use Rattle.house_model.proofs.CountingLemmas.{numbers_below-add_one, length-numbers_below, get_or-numbers_below, count_below-some, sum_below-term}
-use Rattle.house_model.proofs.RowLemmas.{length-row}
+use Rattle.house_model.proofs.CountingLemmas.{numbers_below-add_one, length-numbers_below, get_or-numbers_below, sum_below-term}
+use Rattle.house_model.proofs.RowLemmas.{row-below}
 use Rattle.review_desk.specs.Desk.{Marks, IsSetUp, place_under, points_at, desk_profile, profile_on}
-use Rattle.seat_quota.specs.Tally.{IsTally}
+use Rattle.seat_quota.specs.Tally.{HoldsRows, IsGiven, IsTally, row_at}
 use Rattle.seat_quota.specs.Totals.{Shares, IsSummed, IsRow, IsExchange, row_among, found_in}
-use Rattle.seat_quota.proofs.ExchangeLemmas.{item, found_whole, score-change, cents_at-most}
+use Rattle.seat_quota.proofs.ExchangeLemmas.{item, map-same, found_whole, score-change, cents_at-most}
 use Rattle.seat_quota.proofs.TotalLemmas.{desk-row, row-among, IsRow-row, cents-given, score-most, cluster_cents-from, clusters-whole}
 
 -- The rows of all persons.
@@ -37,27 +39,72 @@ row-read items rows v f n r h l is =
     ∙ (ap (λ xs. get_or xs r (items v)) h
     ∙ (get_or-map f (numbers_below n) r 0 (items v) (omega (arith, numbers)) ∙ ap f (get_or-numbers_below n r 0 l))))
 
+-- The cents along a row.
+
+-- cents that were given along a list that is the row
+pub given-along : (d : Marks) (r : ℕ) (xs numbers : List ℕ) → xs ≡ row_at d r → length xs ≤ length numbers →
+    ((i : ℕ) → i < length xs → get_or numbers i 0 ≡ cents_at (map (points_at d r) xs) i) → IsGiven d r numbers
+given-along d r xs numbers is room value = record {
+  room = subst (λ ys. length ys ≤ length numbers) is room;
+  value = subst (λ ys. (i : ℕ) → i < length ys → get_or numbers i 0 ≡ cents_at (map (points_at d r) ys) i) is value;
+}
+
+-- the cents of one more place
+pub given_more : (d : Marks) (cents : List (List ℕ)) (numbers : List ℕ) (n : ℕ) → length cents ≡ n → ((r : ℕ) → r < n → IsGiven d r (get_or cents r [])) → IsGiven d n numbers →
+    (r : ℕ) → r < n + 1 → IsGiven d r (get_or (cents ++ numbers ∷ []) r [])
+given_more d cents numbers n len h last =
+    below_more (λ r. IsGiven d r (get_or (cents ++ numbers ∷ []) r [])) n
+    (λ r l. subst (IsGiven d r) (sym (get_or-append cents (numbers ∷ []) [] r (omega (arith, len)))) (h r l))
+    (subst (λ k. IsGiven d n (get_or (cents ++ numbers ∷ []) k [])) len (subst (IsGiven d n) (sym (get_or-append_seam cents numbers [] [])) last))
+
+-- a reviewer whose points stay gives the same cents
+pub given-same : (s : Setting) (d d' : Marks) (r : ℕ) (numbers : List ℕ) → d.pairs.side ≡ size s → d'.pairs ≡ d.pairs → r < size s →
+    ((k : ℕ) → k < size s → points_at d' r k ≡ points_at d r k) → IsGiven d r numbers → IsGiven d' r numbers
+given-same s d d' r numbers side pairs l same h =
+    let is : row_at d r ≡ row_at d' r = ap (λ (g : Square). row_among g.side (cell g) r) (sym pairs) in
+    let places = desk-row s d r (row_at d r) side refl in
+    let below : (i : ℕ) → i < length (row_at d r) → get_or (row_at d r) i 0 < size s =
+    λ i il. subst (λ xs. get_or xs i 0 < size s) (sym places) (row-below (desk_profile s d) r l i 0 (omega (arith, ap length places))) in
+    let points = map-same (points_at d r) (points_at d' r) (row_at d r) (λ i il. sym (same (get_or (row_at d r) i 0) (below i il))) in
+    given-along d' r (row_at d r) numbers is h.room (λ i il. h.value i il ∙ ap (λ xs. cents_at xs i) points)
+
+-- after a review by one person its cents are others, and everybody else's stay
+pub rows-kept : (s : Setting) (d d' : Marks) (rows cents : List (List ℕ)) (r : ℕ) (numbers : List ℕ) → d.pairs.side ≡ size s → d'.pairs ≡ d.pairs →
+    ((i k : ℕ) → i < size s → k < size s → i ≢ r → points_at d' i k ≡ points_at d i k) → r < size s → HoldsRows d rows cents → IsGiven d' r numbers →
+    HoldsRows d' rows (set cents r numbers)
+rows-kept s d d' rows cents r numbers side pairs others rl h own = record {
+  places = h.places ∙ ap (λ (g : Square). map (row_among g.side (cell g)) (numbers_below g.side)) (sym pairs);
+  each = length-set cents r numbers ∙ (h.each ∙ ap (λ (g : Square). g.side) (sym pairs));
+  given = λ i il.
+      let was : d'.pairs.side ≡ d.pairs.side = ap (λ (g : Square). g.side) pairs in
+      elim (cases_eq r i) [
+        | inl e ↦
+            let P : ℕ → Type 0 = λ k. IsGiven d' k (get_or (set cents r numbers) k []) in
+            subst P e (subst (IsGiven d' r) (sym (get_or-set_same cents r numbers [] (omega (arith, h.each, side)))) own)
+        | inr ne ↦
+            let other : i ≢ r = λ e. ne (sym e) in
+            subst (IsGiven d' i) (sym (get_or-set_other cents r i numbers [] other))
+            (given-same s d d' i (get_or cents i []) side pairs (omega (arith, was, side)) (λ k kl. others i k (omega (arith, was, side)) kl other) (h.given i (omega (arith, was))))
+      ];
+}
+
 -- One review.
 
--- a person that is assigned to some applicant has a row
-pub row-some : (f : Profile) (r p : ℕ) → r < size f.setting → p < size f.setting → f.pairs r p ≡ true → 1 ≤ length (row f r)
-row-some f r p rl pl h = omega (arith, length-row f r rl, count_below-some (f.pairs r) p (size f.setting) pl h)
-
--- the row that is held for an assigned person
+-- the row that is held for a person
 pub record IsOwnRow (s : Setting) (d : Marks) (r : ℕ) (xs : List ℕ) : Type 0 where
+  pub among : xs ≡ row_at d r
   pub places : xs ≡ row (desk_profile s d) r
   pub is_row : IsRow (size s) xs
-  pub some : 1 ≤ length xs
 
-pub own-row : {V : Type 0} (items : V → List ℕ) (rows : List V) (v : V) (s : Setting) (d : Marks) (r p : ℕ) (xs : List ℕ) → IsSetUp s d →
-    map items rows ≡ map (row_among d.pairs.side (cell d.pairs)) (numbers_below d.pairs.side) → v ≡ get_or rows r v → xs ≡ items v →
-    r < size s → p < size s → cell d.pairs r p ≡ true → IsOwnRow s d r xs
-own-row items rows v s d r p xs h held read is rl pl assigned =
-    let places = desk-row s d r xs h.side (is ∙ row-read items rows v (row_among d.pairs.side (cell d.pairs)) d.pairs.side r held (omega (arith, h.side)) read) in
+pub own-row : {V : Type 0} (items : V → List ℕ) (rows : List V) (v : V) (s : Setting) (d : Marks) (r : ℕ) (xs : List ℕ) → IsSetUp s d →
+    map items rows ≡ map (row_at d) (numbers_below d.pairs.side) → v ≡ get_or rows r v → xs ≡ items v → r < size s → IsOwnRow s d r xs
+own-row items rows v s d r xs h held read is rl =
+    let among = is ∙ row-read items rows v (row_at d) d.pairs.side r held (omega (arith, h.side)) read in
+    let places = desk-row s d r xs h.side among in
     record {
+      among = among;
       places = places;
       is_row = subst (IsRow (size s)) (sym places) (IsRow-row (desk_profile s d) r h.setting h.valid rl);
-      some = omega (arith, ap length places, row-some (desk_profile s d) r p rl pl assigned);
     }
 
 -- a desk of which the points of one pair are others

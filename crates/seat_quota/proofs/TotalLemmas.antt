@@ -1,4 +1,4 @@
-use Rattle.std.proofs.Common.{◌≡◌, ℕ, ◌+◌, ◌*◌, ◌^◌, ◌<◌, ◌≤◌, Bool, true, false, cond, eqb, List, [], ◌∷◌, length, map, get_or, set, Option, Some, None, refl, sym, ap, ◌∙◌, inl, inr, arith, position}
+use Rattle.std.proofs.Common.{◌≡◌, ℕ, ◌+◌, ◌*◌, ◌^◌, ◌<◌, ◌≤◌, Bool, true, false, cond, eqb, List, length, map, get_or, set, Option, Some, None, refl, ap, ◌∙◌, inl, inr, arith, position}
 use Rattle.std.specs.List.{slice_get}
 use Rattle.std.specs.Option.{option_map_or}
 use Rattle.std.proofs.lemmas.Bool.{cond-true, cond-false, cases_eq, ne_eqb, eq-eqb}
@@ -100,15 +100,6 @@ sums_more s numbers sums place at v n own within below is h j l =
     ]
 
 -- Profiles.
-
-no_items : (xs : List ℕ) → length xs ≡ 0 → xs ≡ []
-no_items [] h = refl
-no_items (x ∷ xs) h = absurd (omega arith)
-
-pub cents-none : (f : Profile) (r p : ℕ) (proposals : List ℕ) → proposals ≡ row f r → length proposals ≡ 0 → cents f r p ≡ 0
-unfolding cents
-cents-none f r p proposals is none =
-    ap (λ xs. option_map_or (cents_at (row_points f r)) (position (λ q. eqb q p) xs) 0) (sym is ∙ no_items proposals none)
 
 -- the proposals of a reviewer, by the pairs alone
 pub row-among : (f : Profile) (r : ℕ) → row_among (size f.setting) f.pairs r ≡ row f r

@@ -1,6 +1,6 @@
 //! The proposals of one person, and the cents that they get from it.
 
-ghost use Rattle.std.specs.Prelude.{◌≡◌, ℕ, ◌+◌, ◌^◌, ◌<◌, ◌≤◌, length, map, slice_index, IfOk};
+ghost use Rattle.std.specs.Prelude.{◌≡◌, ℕ, ◌+◌, ◌%◌, ◌^◌, ◌<◌, ◌≤◌, length, map, slice_index, IfOk};
 ghost use Rattle.house_base.specs.Grid.{cell};
 ghost use Rattle.house_model.specs.Split.{cents_at};
 ghost use Rattle.review_desk.specs.Desk.{points_at};
@@ -23,7 +23,7 @@ pub(crate) fn row(alloc: Global, pairs: &Grid, reviewer: u32) -> Result<Vec<u32>
     let side = pairs.side();
     let mut row = Vec::new(alloc);
     for distance in 0..side {
-        let proposal = (reviewer + 1 + distance) % side;
+        let proposal = place_on_round(reviewer + 1 + distance, side);
         if pairs.get(reviewer, proposal) {
             row.push(proposal)?;
         }
@@ -31,20 +31,30 @@ pub(crate) fn row(alloc: Global, pairs: &Grid, reviewer: u32) -> Result<Vec<u32>
     Ok(row)
 }
 
-/// The cents that a person gives the proposals of its row, in their order.
+/// The place at which a step behind the last place goes on from the first. No division: a call has a million steps.
+fn place_on_round(step: u32, side: u32) -> u32
+    requires { step < side + side }
+    ensures { result ≡ step % side }
+{
+    if step < side { step } else { step - side }
+}
+
+/// The cents that a person gives the proposals of its row, in their order; none where it has none.
 pub(crate) fn row_cents(desk: &Desk, reviewer: u32, row: &[u32]) -> [u32; MOST_ROW]
     requires reviewer { reviewer < desk.now.pairs.side }
     requires row { IsRow desk.now.pairs.side row.now }
-    requires some { 1 ≤ length row.now }
     ensures room { length row.now ≤ length result }
     ensures value { (i : ℕ) → i < length row.now → slice_index result i
         ≡ cents_at (map (points_at desk.now reviewer) row.now) i }
 {
+    let mut cents = [0; MOST_ROW];
+    if row.is_empty() {
+        return cents;
+    }
     let mut points = [0; MOST_ROW];
     for i in 0..row.len() {
         points[i] = desk.points(reviewer, row[i]);
     }
-    let mut cents = [0; MOST_ROW];
     split(&points[..row.len()], &mut cents[..row.len()]);
     cents
 }

@@ -1,18 +1,18 @@
 //! A desk with its totals, which follow each review.
 
-ghost use Rattle.std.specs.Prelude.{◌≡◌, ℕ, ◌<◌, ◌≤◌, IsTrue, IfOk, length, map, slice_index, ◌==◌, ◌&&◌, if◌then◌else◌};
+ghost use Rattle.std.specs.Prelude.{◌≡◌, ℕ, ◌<◌, ◌≤◌, [], IsTrue, IfOk, length, map, get_or, slice_index, ◌==◌, ◌&&◌, if◌then◌else◌};
 ghost use Rattle.house_base.specs.Grid.{cell};
 ghost use Rattle.house_base.specs.Setting.{size};
 ghost use Rattle.house_base.specs.declared.answer.Kind.{Kind};
 ghost use Rattle.house_base.specs.declared.answer.Took.TheVariants.{Aside};
 ghost use Rattle.house_model.specs.Counting.{numbers_below, sum_below};
 ghost use Rattle.house_model.specs.Profile.{is_valid};
-ghost use Rattle.review_desk.specs.Desk.{points_at};
+ghost use Rattle.review_desk.specs.Desk.{IsSetUp, points_at};
 ghost use Rattle.review_desk.specs.Line.{kind_among, took_as, points_after};
-ghost use Rattle.seat_quota.specs.Tally.{IsTally};
+ghost use Rattle.seat_quota.specs.Tally.{IsGiven, IsTally, row_at};
 ghost use Rattle.seat_quota.specs.Totals.{row_among};
 
-use crate::row::{row, row_cents};
+use crate::row::{MOST_ROW, row, row_cents};
 use crate::totals::Totals;
 use house_base::limits::MOST_POINTS;
 use house_base::{Grid, Memory, Plan, ReviewLine, Took};
@@ -21,27 +21,24 @@ use std::alloc::Global;
 use std::marker::Model;
 
 /// A desk with its totals, which agree at every moment. The proposals of each person are kept in the order of rising
-/// distance, so that a review costs the one person's row.
+/// distance, with the cents that they have from it, so that a review costs one split of the one person's dollar.
 #[derive(Drop)]
 pub struct Tally {
     desk: Desk,
     totals: Totals,
     rows: Vec<Vec<u32>>,
+    cents: Vec<[u32; MOST_ROW]>,
 }
 
 impl Model for Tally {
-    ghost use Rattle.std.specs.Prelude.{◌≡◌, map};
-    ghost use Rattle.house_base.specs.Grid.{cell};
-    ghost use Rattle.house_model.specs.Counting.{numbers_below};
-    ghost use Rattle.seat_quota.specs.Tally.{DeskTotals};
-    ghost use Rattle.seat_quota.specs.Totals.{row_among};
+    ghost use Rattle.std.specs.Prelude.{map};
+    ghost use Rattle.seat_quota.specs.Tally.{DeskTotals, HoldsRows};
 
     ghost Value = { DeskTotals };
 
     ghost view = { λ t. record { desk = t.desk; totals = t.totals } };
 
-    ghost invariant = { λ t. map (λ row. row.items) t.rows.items
-        ≡ map (row_among t.desk.pairs.side (cell t.desk.pairs)) (numbers_below t.desk.pairs.side) };
+    ghost invariant = { λ t. HoldsRows t.desk (map (λ row. row.items) t.rows.items) t.cents.items };
 }
 
 impl Tally {
@@ -59,7 +56,13 @@ impl Tally {
         let rows = rows(alloc, &pairs)?;
         let desk = Desk::set_up(alloc, plan, pairs)?;
         let totals = Totals::of(alloc, plan, &desk)?;
-        Ok(Tally { desk, totals, rows })
+        let cents = cents(alloc, plan, &desk, &rows)?;
+        Ok(Tally {
+            desk,
+            totals,
+            rows,
+            cents,
+        })
     }
 
     /// Takes a whole review line as the desk does, and brings the totals up to date. It takes no memory.
@@ -94,11 +97,12 @@ impl Tally {
         ensures pairs { self.new.desk.pairs ≡ self.old.desk.pairs }
         ensures set_up { IsTally plan.now self.new }
     {
-        let row = self.rows[review.reviewer as usize].as_slice();
-        let before = row_cents(&self.desk, review.reviewer, row);
+        let at = review.reviewer as usize;
+        let row = self.rows[at].as_slice();
         self.desk.keep(review);
         let after = row_cents(&self.desk, review.reviewer, row);
-        self.totals.exchange_row(plan, row, &before, &after);
+        self.totals.exchange_row(plan, row, &self.cents[at], &after);
+        self.cents[at] = after;
     }
 
     /// The desk.
@@ -126,4 +130,24 @@ fn rows(alloc: Global, pairs: &Grid) -> Result<Vec<Vec<u32>>, Memory>
         rows.push(row(alloc, pairs, reviewer)?)?;
     }
     Ok(rows)
+}
+
+/// The cents that each person gives the proposals of its row, by its place.
+fn cents(
+    alloc: Global,
+    plan: &Plan,
+    desk: &Desk,
+    rows: &[Vec<u32>],
+) -> Result<Vec<[u32; MOST_ROW]>, Memory>
+    requires desk { IsSetUp plan.now desk.now }
+    requires rows { map (λ row. row.items) rows.now ≡ map (row_at desk.now) (numbers_below desk.now.pairs.side) }
+    ensures each { IfOk result (λ cents. length cents.items ≡ desk.now.pairs.side) }
+    ensures given { IfOk result (λ cents. (r : ℕ) → r < desk.now.pairs.side →
+        IsGiven desk.now r (get_or cents.items r [])) }
+{
+    let mut cents = Vec::new(alloc);
+    for reviewer in 0..plan.count() {
+        cents.push(row_cents(desk, reviewer, &rows[reviewer as usize]))?;
+    }
+    Ok(cents)
 }

@@ -161,9 +161,6 @@ fn share_out(
         slice_index scores.new p ≡ slice_index scores.old p + cents (desk_profile plan.now desk.now) reviewer p) }
 {
     let row = row(alloc, desk.grid(), reviewer)?;
-    if row.is_empty() {
-        return Ok(());
-    }
     let cents = row_cents(desk, reviewer, &row);
     give(&row, &cents, scores);
     Ok(())

@@ -1,10 +1,11 @@
-use Rattle.std.proofs.Common.{◌≡◌, ◌+◌, ◌*◌, ◌/◌, ◌%◌, length, ap, arith}
+use Rattle.std.proofs.Common.{◌≡◌, ◌+◌, ◌*◌, ◌/◌, length, ap, ◌∙◌, arith}
 use Rattle.house_base.specs.declared.limits.TheConstants.{DOLLAR}
 use Rattle.house_model.specs.Counting.{sum_below}
 use Rattle.house_model.specs.Split.{base_at, remainder_at}
 use Rattle.house_model.proofs.CountingLemmas.{sum_below-zero, sum_below-add_one, sum_below-longer}
 use Rattle.house_model.proofs.SplitLemmas.{left_over-less, sum-weights}
 use Rattle.dollar_split.proofs.ShareLemmas.{base-read, remainder-read, set_more}
+use Rattle.dollar_split.specs.Weighed.{priority_of}
 use Rattle.dollar_split.proofs.largest_remainder.give_bases.Goals as goal
 
 pub loop-i-init : goal.loop-i-init
@@ -13,8 +14,8 @@ loop-i-init c = record { whole = omega (arith, sum_below-zero (base_at c.args.po
 pub nonzero_div-share : goal.nonzero_div-share
 nonzero_div-share c = omega (arith, c.requires.weighed.together, sum-weights c.args.points.now (omega arith))
 
-pub nonzero_rem-remainders : goal.nonzero_rem-remainders
-nonzero_rem-remainders c = omega (arith, c.requires.weighed.together, sum-weights c.args.points.now (omega arith))
+pub nonzero_rem-dollars : goal.nonzero_rem-dollars
+nonzero_rem-dollars c = omega (arith, c.requires.weighed.together, sum-weights c.args.points.now (omega arith))
 
 pub overflow_sub-left : goal.overflow_sub-left
 overflow_sub-left c =
@@ -43,7 +44,7 @@ loop-i-preserved c =
         (left_over-less points c.requires.weighed.split.some).0,
       );
       given = set_more c.loop-i.cents c.loop-i.i (DOLLAR * c.weight_at-dollars.result / c.args.total) (base_at points) (omega arith) c.loop-i.invariant.given base;
-      noted = set_more c.loop-i.remainders c.loop-i.i (DOLLAR * c.weight_at-dollars.result % c.args.total) (remainder_at points) (omega arith) c.loop-i.invariant.noted remainder;
+      noted = set_more c.loop-i.priorities c.loop-i.i c.priority.result (λ k. priority_of (remainder_at points k) k) (omega arith) c.loop-i.invariant.noted (c.priority.ensures ∙ ap (λ x. priority_of x c.loop-i.i) remainder);
     }
 
 pub returns-clause-left : goal.returns-clause-left

@@ -12,12 +12,12 @@ pub returns-clause-shares : goal.returns-clause-shares
 returns-clause-shares c =
     let points = c.args.points.now in
     λ i l. c.give_left_over.ensures i (omega (arith, c.give_bases-left.ensures.each))
-    ∙ cents-from points c.give_bases-left.new.remainders i (get_or c.give_bases-left.new.cents i 0) c.give_bases-left.result (omega (arith, c.give_bases-left.ensures.each)) l c.give_bases-left.ensures.remainders (c.give_bases-left.ensures.bases i l) c.give_bases-left.ensures.left
+    ∙ cents-from points c.give_bases-left.new.priorities i (get_or c.give_bases-left.new.cents i 0) c.give_bases-left.result (omega (arith, c.give_bases-left.ensures.each)) c.requires.few l c.give_bases-left.ensures.priorities (c.give_bases-left.ensures.bases i l) c.give_bases-left.ensures.left
 
 pub returns-clause-whole : goal.returns-clause-whole
 returns-clause-whole c =
     let points = c.args.points.now in
     let each : (i : ℕ) → i < length points → get_or c.give_left_over.new.cents i 0 ≡ cents_at points i =
     λ i l. c.give_left_over.ensures i (omega (arith, c.give_bases-left.ensures.each))
-    ∙ cents-from points c.give_bases-left.new.remainders i (get_or c.give_bases-left.new.cents i 0) c.give_bases-left.result (omega (arith, c.give_bases-left.ensures.each)) l c.give_bases-left.ensures.remainders (c.give_bases-left.ensures.bases i l) c.give_bases-left.ensures.left in
+    ∙ cents-from points c.give_bases-left.new.priorities i (get_or c.give_bases-left.new.cents i 0) c.give_bases-left.result (omega (arith, c.give_bases-left.ensures.each)) c.requires.few l c.give_bases-left.ensures.priorities (c.give_bases-left.ensures.bases i l) c.give_bases-left.ensures.left in
     cents-whole points c.give_left_over.new.cents (omega arith) c.requires.some each

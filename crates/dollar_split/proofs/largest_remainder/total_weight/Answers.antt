@@ -16,8 +16,8 @@ loop-i-preserved c =
       few = omega (arith, c.loop-i.invariant.few, c.weight_at-total.ensures.most);
     }
 
-pub returns : goal.returns
-returns c =
+pub returns-clause-value : goal.returns-clause-value
+returns-clause-value c =
     let ws = weights c.args.points.now in
     let whole : c.loop-i.i ≡ length ws = omega (arith, length-weights c.args.points.now) in
     c.loop-i.invariant.together ∙ (ap (sum_below (λ i. get_or ws i 0)) whole ∙ sum_below-items ws)

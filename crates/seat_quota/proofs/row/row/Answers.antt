@@ -16,8 +16,8 @@ loop-distance-preserved c =
     let t = cell c.args.pairs.now c.args.reviewer in
     let g = λ (d : ℕ). (c.args.reviewer + 1 + d) % n in
     let d = c.loop-distance.distance in
-    let y = (c.args.reviewer + 1 + d) % c.side-side.result in
-    let place : y ≡ g d = ap (λ n. (c.args.reviewer + 1 + d) % n) c.side-side.ensures.value in
+    let y = c.place_on_round-proposal.result in
+    let place : y ≡ g d = c.place_on_round-proposal.ensures ∙ ap (λ n. (c.args.reviewer + 1 + d) % n) c.side-side.ensures.value in
     elim c.if-get.branch [
       | then-get+in_ok-push w ↦ row_takes t g d y c.loop-distance.row.items c.if-get.row.items c.loop-distance.invariant place (sym c.get.ensures ∙ w.if-get.true) (ap (λ v. v.items) w.row-is ∙ w.in_ok-push.ensures.items)
       | else-get w ↦ row_skips t g d y c.loop-distance.row.items c.if-get.row.items c.loop-distance.invariant place (sym c.get.ensures ∙ w.if-get.false) (ap (λ v. v.items) w.row-is)

@@ -1,4 +1,4 @@
-use Rattle.std.proofs.Common.{◌≡◌, ◌%◌, ◌<◌, ◌∙◌, arith}
+use Rattle.std.proofs.Common.{◌∙◌, arith}
 use Rattle.house_base.specs.Grid.{cell}
 use Rattle.seat_quota.proofs.SixLemmas.{pairs_more}
 use Rattle.seat_quota.proofs.tests.pairs.Goals as goal

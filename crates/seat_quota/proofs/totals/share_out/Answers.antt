@@ -1,24 +1,12 @@
-use Rattle.std.proofs.Common.{◌≡◌, ℕ, ◌+◌, ◌<◌, length, map, get_or, sym, ap, subst, ◌∙◌, arith, vec_len}
-use Rattle.std.proofs.lemmas.Bool.{eqb-true}
+use Rattle.std.proofs.Common.{◌≡◌, ℕ, ◌+◌, ◌<◌, length, map, get_or, sym, ap, subst, ◌∙◌, arith}
 use Rattle.house_base.specs.Setting.{size}
 use Rattle.house_base.specs.Grid.{Square, cell}
 use Rattle.house_model.specs.Profile.{row}
 use Rattle.house_model.specs.Split.{cents_at}
 use Rattle.review_desk.specs.Desk.{desk_profile, points_at}
 use Rattle.seat_quota.specs.Totals.{IsRow, row_among}
-use Rattle.seat_quota.proofs.TotalLemmas.{desk-row, IsRow-row, cents-none, cents-given}
+use Rattle.seat_quota.proofs.TotalLemmas.{desk-row, IsRow-row, cents-given}
 use Rattle.seat_quota.proofs.totals.share_out.Goals as goal
-
-pub returns-then-is_empty : goal.returns-then-is_empty
-returns-then-is_empty c =
-    let s = c.args.plan.now in
-    let desk = c.args.desk.now in
-    let r = c.args.reviewer in
-    let rows = c.in_ok-row.row.items in
-    let is : rows ≡ row (desk_profile s desk) r = desk-row s desk r rows c.requires.desk.side (c.in_ok-row.ensures ∙ ap (λ (g : Square). row_among g.side (cell g) r) c.grid.ensures) in
-    let empty = eqb-true (vec_len c.in_ok-row.row) 0 (sym c.is_empty.ensures ∙ c.if-is_empty.true) in
-    let none : length rows ≡ 0 = omega (arith, empty) in
-    λ p l. omega (arith, cents-none (desk_profile s desk) r p rows is none)
 
 pub row_cents-cents-requires-clause-row : goal.row_cents-cents-requires-clause-row
 row_cents-cents-requires-clause-row c =

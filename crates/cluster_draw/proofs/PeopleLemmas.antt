@@ -1,19 +1,19 @@
-use Rattle.std.proofs.Common.{◌≡◌, ℕ, suc, ◌+◌, ◌<◌, ◌≤◌, true, false, List, [], ◌∷◌, ◌++◌, length, get_or, map, filter, find, flat_map, take, bytes_eq, Option, Some, None, is_some, IfSome, slice_get, refl, sym, ap, ◌∙◌, inl, inr, arith, length-append, append-nil, append_assoc, length-take-le, le_of_lt}
+use Rattle.std.proofs.Common.{◌≡◌, ℕ, zero, suc, ◌+◌, ◌<◌, ◌≤◌, Bool, true, false, not, List, [], ◌∷◌, ◌++◌, length, get_or, map, filter, find, flat_map, take, drop, bytes_eq, Option, Some, None, is_some, IfSome, slice_get, refl, sym, ap, ◌∙◌, subst, inl, inr, arith, length-append, append-nil, append_assoc, length-take-le, le_of_lt}
 use Rattle.std.specs.List.{enumerate_from}
 use Rattle.std.specs.Option.{option_map, option_map_or, unwrap_or}
-use Rattle.std.proofs.lemmas.Bool.{cond-true, cond-false}
-use Rattle.std.proofs.lemmas.List.{take_more, map_push, take_all}
+use Rattle.std.proofs.lemmas.Bool.{cases_Bool, cases_lt, false≢true, cond-true, cond-false}
+use Rattle.std.proofs.lemmas.List.{take_more, map_push, map-append, take_all, take-map, take-append-drop, length-map}
 use Rattle.std.proofs.lemmas.List.Elements.{filter-append}
 use Rattle.std.proofs.lemmas.List.Concat.{flat_map-append}
-use Rattle.std.proofs.lemmas.List.Sums.{count_by-le-length}
 use Rattle.std.proofs.lemmas.Option.{slice_get-map, slice_get_within, slice_get-get_or, get_or_from_slice_get, same_Some}
 use Rattle.house_base.specs.declared.plan.Person.{Person}
 use Rattle.house_base.specs.declared.plan.Owner.{Owner}
 use Rattle.house_model.specs.Text.{Text}
-use Rattle.house_model.specs.Register.{Register, names, persons, placed_names, own_count, own_people, people, owners, owners_from, entry, cluster_of, person_of, among}
+use Rattle.house_model.specs.Register.{Register, names, persons, firsts, placed_names, own_count, own_people, people, owners, owners_from, entry, cluster_of, person_of, among}
 use Rattle.register_book.specs.Held.{text_at}
-use Rattle.house_model.proofs.InOrderLemmas.{In}
-use Rattle.house_model.proofs.GroupLemmas.{In-group, bytes_eq-other, not_In, not_among}
+use Rattle.house_model.proofs.AtIndexLemmas.{In-slice_get}
+use Rattle.house_model.proofs.InOrderLemmas.{In, filter-In}
+use Rattle.house_model.proofs.GroupLemmas.{In-group, bytes_eq-same, bytes_eq-other, not_In, not_among}
 use Rattle.house_model.proofs.RegisterPeopleLemmas.{Numbered, person_in, numbered, own_entries, length-own_people}
 
 -- The people of a plan, person by person.
@@ -67,6 +67,82 @@ own_rows-whole reg person =
     map-agree (λ e. record { name = e.1.0; cluster = cluster_of reg person; number = e.0 }) (entry reg) (own_entries reg person)
     (λ e m. ap (λ t. record { name = e.1.0; cluster = cluster_of reg t; number = e.0 }) (sym (In-group person_in (numbered reg) person e m).1))
 
+-- The first applicant of a person.
+
+-- a text stands in a list at an index or behind it
+abbrev StandsFrom : List Text → ℕ → Text → Type 0
+StandsFrom xs i t = (j : ℕ) × (i ≤ j) × (slice_get xs j ≡ Some t)
+
+from_rest : (x t : Text) (ys xs : List Text) (i : ℕ) → ((k : ℕ) → slice_get ys k ≡ Some t → StandsFrom xs k t) → slice_get (x ∷ ys) i ≡ Some t → StandsFrom (x ∷ xs) i t
+from_rest x t ys xs zero rest h = (0, omega arith, h)
+from_rest x t ys xs (suc k) rest h = let there = rest k h in (suc there.0, omega (arith, there.1), there.2)
+
+-- what passes a test stands in the whole list at its index or behind it
+from_filter : (f : Text → Bool) (xs : List Text) (i : ℕ) (t : Text) → slice_get (filter f xs) i ≡ Some t → StandsFrom xs i t
+from_filter f [] i t e = absurd (let wrong : ⊥ = cc in wrong)
+from_filter f (x ∷ xs) i t e = elim (cases_Bool (f x)) [
+  | inl passes ↦
+      from_rest x t (filter f xs) xs i (λ k h. from_filter f xs k t h) (ap (λ l. slice_get l i) (sym (cond-true (f x) (x ∷ filter f xs) (filter f xs) passes)) ∙ e)
+  | inr fails ↦
+      let there = from_filter f xs i t (ap (λ l. slice_get l i) (sym (cond-false (f x) (x ∷ filter f xs) (filter f xs) fails)) ∙ e) in
+      (suc there.0, omega (arith, there.1), there.2)
+]
+
+-- a text that is first at an index among the first ones is not among as many texts before
+firsts-not_before : (xs : List Text) (k i : ℕ) (t : Text) → k ≤ i → slice_get (firsts xs) i ≡ Some t → In t (take k xs) → ⊥
+firsts-not_before xs zero i t l e m = m
+firsts-not_before [] (suc k) i t l e m = m
+firsts-not_before (x ∷ xs) (suc k) zero t l e m = absurd (omega (arith, l))
+firsts-not_before (x ∷ xs) (suc k) (suc i) t l e m =
+    let others = filter (λ y. not (bytes_eq x y)) (firsts xs) in
+    let passes = (filter-In (λ y. not (bytes_eq x y)) t (firsts xs) (In-slice_get others i t e)).1 in
+    elim m [
+      | inl same ↦ false≢true (sym (ap not (bytes_eq-same x t (sym same))) ∙ passes)
+      | inr there ↦ let behind = from_filter (λ y. not (bytes_eq x y)) (firsts xs) i t e in firsts-not_before xs k behind.0 t (omega (arith, l, behind.1)) behind.2 there
+    ]
+
+own_rows-none : (person : Text) (cluster n : ℕ) (xs : List (Text × Text)) → (In person (map (λ a. a.1) xs) → ⊥) → own_rows person cluster (enumerate_from n xs) ≡ []
+own_rows-none person cluster n [] absent = refl
+own_rows-none person cluster n (x ∷ xs) absent =
+    ap (map (λ e. record { name = e.1.0; cluster = cluster; number = e.0 }))
+    (cond-false (bytes_eq x.1 person) ((n, x) ∷ filter (λ e. bytes_eq e.1.1 person) (enumerate_from (n + 1) xs)) (filter (λ e. bytes_eq e.1.1 person) (enumerate_from (n + 1) xs))
+    (bytes_eq-other x.1 person (λ e. absent (inl (sym e)))))
+    ∙ own_rows-none person cluster (n + 1) xs (λ m. absent (inr m))
+
+-- no applicant whose number is below a person's is that person's
+pub own_rows-before : (reg : Register) (person cluster : ℕ) (name : Text) → slice_get (persons reg) person ≡ Some name
+    → own_rows name cluster (enumerate_from 0 (take person reg.applicants)) ≡ []
+unfolding persons
+own_rows-before reg person cluster name here =
+    own_rows-none name cluster 0 (take person reg.applicants) (λ m.
+    firsts-not_before (map (λ a. a.1) reg.applicants) person person name (omega arith) here
+    (subst (λ l. In name l) (sym (take-map (λ a. a.1) person reg.applicants)) m))
+
+-- All of a person's applicants, when as many were found as it has.
+
+own_rows-append : (person : Text) (cluster : ℕ) (es fs : List Numbered) → own_rows person cluster (es ++ fs) ≡ own_rows person cluster es ++ own_rows person cluster fs
+own_rows-append person cluster es fs =
+    ap (map (λ e. record { name = e.1.0; cluster = cluster; number = e.0 })) (filter-append (λ e. bytes_eq e.1.1 person) es fs)
+    ∙ map-append (λ e. record { name = e.1.0; cluster = cluster; number = e.0 }) (filter (λ e. bytes_eq e.1.1 person) es) (filter (λ e. bytes_eq e.1.1 person) fs)
+
+nothing_behind : (whole front back : List Person) → whole ≡ front ++ back → length whole ≤ length front → front ≡ whole
+nothing_behind whole front [] e l = sym (e ∙ append-nil front)
+nothing_behind whole front (p ∷ back) e l = absurd (omega (arith, ap length e, length-append front (p ∷ back), l))
+
+own_rows-split : (person : Text) (cluster n : ℕ) (xs : List (Text × Text)) → own_rows person cluster (enumerate_from 0 xs)
+    ≡ own_rows person cluster (enumerate_from 0 (take n xs)) ++ own_rows person cluster (enumerate_from (0 + length (take n xs)) (drop n xs))
+own_rows-split person cluster n xs =
+    ap (λ ys. own_rows person cluster (enumerate_from 0 ys)) (sym (take-append-drop n xs))
+    ∙ (ap (own_rows person cluster) (enumerate_from-append 0 (take n xs) (drop n xs))
+    ∙ own_rows-append person cluster (enumerate_from 0 (take n xs)) (enumerate_from (0 + length (take n xs)) (drop n xs)))
+
+own_rows-enough : (person : Text) (cluster n : ℕ) (xs : List (Text × Text))
+    → length (own_rows person cluster (enumerate_from 0 xs)) ≤ length (own_rows person cluster (enumerate_from 0 (take n xs)))
+    → own_rows person cluster (enumerate_from 0 (take n xs)) ≡ own_rows person cluster (enumerate_from 0 xs)
+own_rows-enough person cluster n xs l =
+    nothing_behind (own_rows person cluster (enumerate_from 0 xs)) (own_rows person cluster (enumerate_from 0 (take n xs)))
+    (own_rows person cluster (enumerate_from (0 + length (take n xs)) (drop n xs))) (own_rows-split person cluster n xs) l
+
 -- the applicant with a number, by its name and its person
 pub applicant_parts : (reg : Register) (i : ℕ) (name : Text) → slice_get (names reg) i ≡ Some name → slice_get reg.applicants i ≡ Some (name, person_of reg i)
 unfolding person_of
@@ -96,28 +172,53 @@ unfolding cluster_of
 cluster_or_none reg person None placed same = sym (ap (λ w. option_map_or (λ p. p.1) w 0) (not_found reg.placed person (sym placed)))
 cluster_or_none reg person (Some cluster) placed same = same
 
--- all of a person's rows, when each applicant was looked at
+-- as many rows as a person has applicants are in its whole list
+pub length-own_rows : (reg : Register) (cluster : ℕ) (person : Text) → length (own_rows person cluster (numbered reg)) ≡ own_count reg person
+length-own_rows reg cluster person =
+    length-map (own_entries reg person) (λ e. record { name = e.1.0; cluster = cluster; number = e.0 })
+    ∙ (sym (length-map (own_entries reg person) (λ e. record { name = e.1.0; cluster = cluster_of reg person; number = e.0 }))
+    ∙ (ap length (own_rows-whole reg person) ∙ length-own_people reg person))
+
+-- the rows among the first applicants are no more than the person has applicants
+pub own_rows-most : (reg : Register) (number cluster : ℕ) (person : Text)
+    → length (own_rows person cluster (enumerate_from 0 (take number reg.applicants))) ≤ own_count reg person
+own_rows-most reg number cluster person =
+    let front = own_rows person cluster (enumerate_from 0 (take number reg.applicants)) in
+    let back = own_rows person cluster (enumerate_from (0 + length (take number reg.applicants)) (drop number reg.applicants)) in
+    omega (arith, ap length (own_rows-split person cluster number reg.applicants), length-append front back, length-own_rows reg cluster person)
+
+-- all of a person's rows, when as many were found as it has
 pub whole_own : (reg : Register) (person number cluster : ℕ) (name : Text) (o : Option ℕ) (before ps : List Person) → slice_get (persons reg) person ≡ Some name
     → is_some o ≡ among (placed_names reg) (text_at (persons reg) person) → IfSome o (λ k. k ≡ cluster_of reg (text_at (persons reg) person)) → cluster ≡ unwrap_or o 0
-    → length reg.applicants ≤ number → ps ≡ before ++ own_rows name cluster (enumerate_from 0 (take number reg.applicants))
+    → length before + own_count reg (text_at (persons reg) person) ≤ length ps → ps ≡ before ++ own_rows name cluster (enumerate_from 0 (take number reg.applicants))
     → ps ≡ before ++ own_people reg (text_at (persons reg) person)
 whole_own reg person number cluster name o before ps here placed same chosen l e =
     let named = get_or_from_slice_get (persons reg) person name [] here in
     let in_cluster = chosen ∙ (cluster_or_none reg (text_at (persons reg) person) o placed same ∙ ap (cluster_of reg) named) in
+    let rows = own_rows name cluster (enumerate_from 0 (take number reg.applicants)) in
+    let enough : length (own_rows name cluster (numbered reg)) ≤ length rows =
+    omega (arith, l, ap length e, length-append before rows, length-own_rows reg cluster name, ap (own_count reg) named) in
     e
     ∙ ap (λ rows. before ++ rows)
-    (ap (λ ys. own_rows name cluster (enumerate_from 0 ys)) (take_all number reg.applicants l)
+    (own_rows-enough name cluster number reg.applicants enough
     ∙ (ap (λ k. own_rows name k (numbered reg)) in_cluster ∙ (own_rows-whole reg name ∙ ap (own_people reg) (sym named))))
+
+-- while fewer rows were found than a person has applicants, there are applicants that were not looked at
+pub own_left : (reg : Register) (number cluster : ℕ) (name : Text) (before ps : List Person) → length ps < length before + own_count reg name
+    → ps ≡ before ++ own_rows name cluster (enumerate_from 0 (take number reg.applicants)) → number < length reg.applicants
+own_left reg number cluster name before ps l e = elim (cases_lt number (length reg.applicants)) [
+  | inl below ↦ below
+  | inr past ↦
+      let rows = own_rows name cluster (enumerate_from 0 (take number reg.applicants)) in
+      let all = ap (λ ys. length (own_rows name cluster (enumerate_from 0 ys))) (take_all number reg.applicants past) in
+      absurd (omega (arith, l, ap length e, length-append before rows, all, length-own_rows reg cluster name))
+]
 
 pub length_whole : (reg : Register) (person : Text) (before ps : List Person) → ps ≡ before ++ own_people reg person → length ps ≡ length before + own_count reg person
 length_whole reg person before ps e = ap length e ∙ omega (arith, length-append before (own_people reg person), length-own_people reg person)
 
 pub push_row : (ps front rows : List Person) (row : Person) → ps ≡ front ++ rows → ps ++ row ∷ [] ≡ front ++ (rows ++ row ∷ [])
 push_row ps front rows row e = ap (λ l. l ++ row ∷ []) e ∙ append_assoc front rows (row ∷ [])
-
-pub own_count-le : (reg : Register) (person : Text) → own_count reg person ≤ length reg.applicants
-unfolding own_count
-own_count-le reg person = count_by-le-length (λ a. bytes_eq a.1 person) reg.applicants
 
 -- One person more.
 

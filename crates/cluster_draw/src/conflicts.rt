@@ -44,6 +44,9 @@ fn bar_person(barred: &mut Grid, book: &Book, applicants: &[Person], person: u32
         ≡ (cell barred.old r p || (first == r
         && pair_among book.now.barred (text_at (persons book.now) person) (name_in (people book.now) p))) }
 {
+    if !book.has_conflict(person) {
+        return;
+    }
     for place in 0..barred.side() {
         let applicant = applicants[place as usize];
         if book.barred(person, applicant.number) {

@@ -40,7 +40,10 @@ fn push_own(people: &mut Vec<Person>, book: &Book, person: u32) -> Result<Owner,
     let name = book.person_name(person);
     let cluster = book.cluster(person).unwrap_or(0);
     let first = people.len() as u32;
-    for number in 0..book.count() {
+    let own = book.own_count(person);
+    // Each person before this one has an applicant before this person's first.
+    let mut number = person;
+    while (people.len() as u32) < first + own {
         if book.person_of(number) == person {
             people.push(Person {
                 name: book.name(number),
@@ -48,10 +51,7 @@ fn push_own(people: &mut Vec<Person>, book: &Book, person: u32) -> Result<Owner,
                 number,
             })?;
         }
+        number += 1;
     }
-    Ok(Owner {
-        name,
-        first,
-        own: people.len() as u32 - first,
-    })
+    Ok(Owner { name, first, own })
 }

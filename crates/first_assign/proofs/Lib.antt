@@ -1,3 +1,4 @@
+pub mod CountLemmas
 pub mod MarkLemmas
 pub mod PlaceLemmas
 pub mod StepLemmas

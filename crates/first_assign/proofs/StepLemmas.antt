@@ -1,9 +1,9 @@
-use Rattle.std.proofs.Common.{◌≡◌, ℕ, suc, ◌+◌, ◌<◌, Bool, true, false, not, ◌&&◌, ◌||◌, ◌==◌, ap, ◌∙◌, arith}
-use Rattle.std.proofs.lemmas.Bool.{and_from}
+use Rattle.std.proofs.Common.{◌≡◌, ℕ, suc, ◌+◌, ◌<◌, Bool, true, false, not, ◌&&◌, ◌||◌, ◌==◌, ap, ◌∙◌, inl, inr, arith}
+use Rattle.std.proofs.lemmas.Bool.{and_from, and_cases, and_left, and_right}
 use Rattle.house_base.specs.Setting.{Setting, size, need, may}
 use Rattle.house_model.specs.Counting.{count_below, all_below}
 use Rattle.house_model.specs.Profile.{is_valid}
-use Rattle.house_model.proofs.CountingLemmas.{all_below-suc, all_below-same, count_below-passes, count_below-fails, count_below-same}
+use Rattle.house_model.proofs.CountingLemmas.{all_below-suc, all_below-same, all_below-fails, count_below-passes, count_below-fails, count_below-same}
 
 -- Steps of the tests and counts of an assignment.
 
@@ -16,6 +16,27 @@ count_passes test n h = omega (arith, ap (count_below test) (let e : n + 1 ≡ s
 
 pub count_fails : (test : ℕ → Bool) (n : ℕ) → test n ≡ false → count_below test (n + 1) ≡ count_below test n
 count_fails test n h = omega (arith, ap (count_below test) (let e : n + 1 ≡ suc n = omega arith in e), count_below-fails test n h)
+
+-- An assignment is valid by its rows and the counts of its columns.
+
+pub is_valid-row_fails : (s : Setting) (f : ℕ → ℕ → Bool) (row : ℕ) → row < size s
+    → (all_below (λ p. not (f row p) || may s row p) (size s) && count_below (f row) (size s) == need s row) ≡ false → is_valid s f ≡ false
+unfolding is_valid
+is_valid-row_fails s f row below h =
+    let may_be = all_below (λ r. all_below (λ p. not (f r p) || may s r p) (size s)) (size s) in
+    let needs = all_below (λ r. count_below (f r) (size s) == need s r) (size s) in
+    let reviews = all_below (λ p. count_below (λ r. f r p) (size s) == s.reviews) (size s) in
+    elim (and_cases (all_below (λ p. not (f row p) || may s row p) (size s)) (count_below (f row) (size s) == need s row) h) [
+      | inl bars ↦ and_left (may_be && needs) reviews (and_left may_be needs (all_below-fails _ row (size s) below bars))
+      | inr differs ↦ and_left (may_be && needs) reviews (and_right may_be needs (all_below-fails _ row (size s) below differs))
+    ]
+
+pub is_valid-rows_hold : (s : Setting) (f : ℕ → ℕ → Bool) → all_below (λ r. all_below (λ p. not (f r p) || may s r p) (size s)) (size s) ≡ true
+    → all_below (λ r. count_below (f r) (size s) == need s r) (size s) ≡ true → is_valid s f ≡ all_below (λ p. count_below (λ r. f r p) (size s) == s.reviews) (size s)
+unfolding is_valid
+is_valid-rows_hold s f may_be needs =
+    let reviews = all_below (λ p. count_below (λ r. f r p) (size s) == s.reviews) (size s) in
+    ap (λ b. b && all_below (λ r. count_below (f r) (size s) == need s r) (size s) && reviews) may_be ∙ ap (λ b. b && reviews) needs
 
 -- An assignment is valid by its pairs below the number of applicants alone.
 

@@ -1,113 +1,68 @@
 //! Whether an assignment is valid.
 
-ghost use Rattle.std.specs.Prelude.{◌≡◌, ℕ, ◌<◌, ◌==◌, ◌||◌, not};
+ghost use Rattle.std.specs.Prelude.{◌≡◌, ℕ, ◌+◌, ◌<◌, ◌≤◌, ◌==◌, ◌&&◌, ◌||◌, not, IsTrue, length, slice_index};
 ghost use Rattle.house_base.specs.Grid.{cell};
 ghost use Rattle.house_base.specs.Setting.{size, need, may};
 ghost use Rattle.house_model.specs.Counting.{count_below, all_below};
 ghost use Rattle.house_model.specs.Profile.{is_valid};
 
+use house_base::limits::MOST_APPLICANTS;
 use house_base::{Grid, Plan};
+
+/// How many proposals are counted for: as many as a call may have.
+const COUNTS: usize = MOST_APPLICANTS as usize;
 
 /// Whether the pairs are a valid assignment.
 pub fn is_valid(plan: &Plan, pairs: &Grid) -> bool
     requires { pairs.now.side ≡ size plan.now }
     ensures { result ≡ is_valid plan.now (cell pairs.now) }
 {
-    all_may_be(plan, pairs) && needs_are_met(plan, pairs) && reviews_are_met(plan, pairs)
-}
-
-/// Whether each of the pairs may be.
-fn all_may_be(plan: &Plan, pairs: &Grid) -> bool
-    requires { pairs.now.side ≡ size plan.now }
-    ensures { result
-        ≡ all_below (λ r. all_below (λ p. not (cell pairs.now r p)
-        || may plan.now r p) (size plan.now)) (size plan.now) }
-{
-    for reviewer in 0..plan.count() {
-        if !row_may_be(plan, pairs, reviewer) {
+    let mut received = [0; COUNTS];
+    for reviewer in 0..pairs.side() {
+        if !row_is_valid(plan, pairs, reviewer, &mut received) {
             return false;
         }
     }
-    true
+    reviews_are_met(plan, &received)
 }
 
-/// Whether each of the pairs of a reviewer may be.
-fn row_may_be(plan: &Plan, pairs: &Grid, reviewer: u32) -> bool
+/// Whether each of the pairs of a reviewer may be, and they are as many as it owes. Where that is so, each is
+/// counted for its proposal, beside those of the reviewers before.
+fn row_is_valid(plan: &Plan, pairs: &Grid, reviewer: u32, received: &mut [u32]) -> bool
     requires side { pairs.now.side ≡ size plan.now }
     requires below { reviewer < size plan.now }
-    ensures { result ≡ all_below (λ p. not (cell pairs.now reviewer p) || may plan.now reviewer p) (size plan.now) }
+    requires each { size plan.now ≤ length received.old }
+    requires before { (p : ℕ) → p < size plan.now
+        → slice_index received.old p ≡ count_below (λ r. cell pairs.now r p) reviewer }
+    ensures valid { result ≡ (all_below (λ p. not (cell pairs.now reviewer p) || may plan.now reviewer p) (size plan.now)
+        && count_below (cell pairs.now reviewer) (size plan.now) == need plan.now reviewer) }
+    ensures each { length received.new ≡ length received.old }
+    ensures counted { IsTrue result → (p : ℕ) → p < size plan.now
+        → slice_index received.new p ≡ count_below (λ r. cell pairs.now r p) (reviewer + 1) }
 {
-    for proposal in 0..plan.count() {
-        if !pair_may_be(plan, pairs, reviewer, proposal) {
-            return false;
+    let mut count = 0;
+    for proposal in 0..pairs.side() {
+        if pairs.get(reviewer, proposal) {
+            if !plan.may(reviewer, proposal) {
+                return false;
+            }
+            count += 1;
+            received[proposal as usize] += 1;
         }
     }
-    true
-}
-
-/// Whether a pair is none or may be.
-fn pair_may_be(plan: &Plan, pairs: &Grid, reviewer: u32, proposal: u32) -> bool
-    requires side { pairs.now.side ≡ size plan.now }
-    requires reviewer_below { reviewer < size plan.now }
-    requires proposal_below { proposal < size plan.now }
-    ensures { result ≡ (not (cell pairs.now reviewer proposal) || may plan.now reviewer proposal) }
-{
-    !pairs.get(reviewer, proposal) || plan.may(reviewer, proposal)
-}
-
-/// Whether each person stands in as many pairs as it owes reviews.
-fn needs_are_met(plan: &Plan, pairs: &Grid) -> bool
-    requires { pairs.now.side ≡ size plan.now }
-    ensures { result
-        ≡ all_below (λ r. count_below (cell pairs.now r) (size plan.now) == need plan.now r) (size plan.now) }
-{
-    for reviewer in 0..plan.count() {
-        if count_in_row(pairs, reviewer) != plan.need(reviewer) {
-            return false;
-        }
-    }
-    true
+    count == plan.need(reviewer)
 }
 
 /// Whether each applicant gets the call's number of reviews.
-fn reviews_are_met(plan: &Plan, pairs: &Grid) -> bool
-    requires { pairs.now.side ≡ size plan.now }
-    ensures { result
-        ≡ all_below (λ p. count_below (λ r. cell pairs.now r p) (size plan.now) == plan.now.reviews) (size plan.now) }
+fn reviews_are_met(plan: &Plan, received: &[u32]) -> bool
+    requires { size plan.now ≤ length received.now }
+    ensures { result ≡ all_below (λ p. slice_index received.now p == plan.now.reviews) (size plan.now) }
 {
     let reviews = plan.call().reviews;
     for proposal in 0..plan.count() {
-        if count_in_column(pairs, proposal) != reviews {
+        if received[proposal as usize] != reviews {
             return false;
         }
     }
     true
-}
-
-/// How many pairs stand in a row.
-fn count_in_row(pairs: &Grid, row: u32) -> u32
-    requires { row < pairs.now.side }
-    ensures { result ≡ count_below (cell pairs.now row) pairs.now.side }
-{
-    let mut count = 0;
-    for column in 0..pairs.side() {
-        if pairs.get(row, column) {
-            count += 1;
-        }
-    }
-    count
-}
-
-/// How many pairs stand in a column.
-fn count_in_column(pairs: &Grid, column: u32) -> u32
-    requires { column < pairs.now.side }
-    ensures { result ≡ count_below (λ row. cell pairs.now row column) pairs.now.side }
-{
-    let mut count = 0;
-    for row in 0..pairs.side() {
-        if pairs.get(row, column) {
-            count += 1;
-        }
-    }
-    count
 }

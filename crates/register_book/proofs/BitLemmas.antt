@@ -1,10 +1,10 @@
-use Rattle.std.proofs.Common.{◌≡◌, ℕ, ◌+◌, ◌-◌, ◌*◌, ◌/◌, ◌%◌, ◌^◌, ◌<◌, ◌≤◌, Bool, true, false, ◌&&◌, ◌||◌, eqb, ltb, List, [], ◌++◌, length, get_or, set, take, replicate, bit_and, bit_or, w64, refl, sym, ap, ◌∙◌, inl, inr, arith}
+use Rattle.std.proofs.Common.{◌≡◌, ◌≢◌, ℕ, ◌+◌, ◌-◌, ◌*◌, ◌/◌, ◌%◌, ◌^◌, ◌<◌, ◌≤◌, Bool, true, false, ◌&&◌, ◌||◌, eqb, ltb, List, [], ◌++◌, length, get_or, set, take, replicate, bit_and, bit_or, w64, refl, sym, ap, ◌∙◌, inl, inr, arith}
 use Rattle.std.specs.Int.{bit_at}
-use Rattle.std.proofs.lemmas.Bool.{cases_lt, cases_eq, lt-ltb, le-ltb, eq-eqb, ne_eqb, and_from, and_left, and_right, or_right}
+use Rattle.std.proofs.lemmas.Bool.{cases_lt, cases_eq, false≢true, lt-ltb, le-ltb, eq-eqb, ne_eqb, and_from, and_left, and_right, or_right}
 use Rattle.std.proofs.lemmas.List.{take_all, get_or_append_left, get_or-append_right, get_or-replicate, get_or_past, length-replicate, get_or-set_same, get_or-set_other}
-use Rattle.std.proofs.lemmas.Nat.Bits.{shr_and_one, bit_at-zero, bit_at_set_same, bit_at_set_other}
+use Rattle.std.proofs.lemmas.Nat.Bits.{shr_and_one, bit_at-zero, bit_at-lt, same_from_bits_below, bit_at_set_same, bit_at_set_other}
 use Rattle.register_book.specs.Rows.{is_set, holds}
-use Rattle.register_book.specs.declared.rows.TheConstants.{WORD_BITS, ROW_BITS}
+use Rattle.register_book.specs.declared.rows.TheConstants.{WORD_BITS, ROW_WORDS, ROW_BITS}
 
 -- Bits of a list of words.
 
@@ -123,3 +123,33 @@ holds-past words row column past = and_right (ltb column ROW_BITS) (is_set words
 
 pub holds-none : (row column : ℕ) → holds [] row column ≡ false
 holds-none row column = holds-past [] row column (omega arith)
+
+-- A row has no bit exactly where its words are 0.
+
+pub holds-zero_words : (words : List ℕ) (row : ℕ) → ((k : ℕ) → row * ROW_WORDS ≤ k → k < row * ROW_WORDS + ROW_WORDS → get_or words k 0 ≡ 0)
+    → (column : ℕ) → holds words row column ≡ false
+unfolding holds is_set
+holds-zero_words words row zeros column =
+    let k = row * ROW_BITS + column in
+    elim (cases_lt column ROW_BITS) [
+      | inl below ↦
+          and_right (ltb column ROW_BITS) (eqb (bit_at (get_or words (k / WORD_BITS) 0) (k % WORD_BITS)) 1)
+          (ap (λ w. eqb (bit_at w (k % WORD_BITS)) 1) (zeros (k / WORD_BITS) (omega arith) (omega (arith, below)))
+          ∙ ap (λ n. eqb n 1) (bit_at-zero (k % WORD_BITS)))
+      | inr above ↦ and_left (ltb column ROW_BITS) (eqb (bit_at (get_or words (k / WORD_BITS) 0) (k % WORD_BITS)) 1) (le-ltb column ROW_BITS above)
+    ]
+
+pub word-zero : (words : List ℕ) (row at word : ℕ) → row * ROW_WORDS ≤ at → at < row * ROW_WORDS + ROW_WORDS → word ≡ get_or words at 0 → word < 2 ^ 64
+    → ((column : ℕ) → holds words row column ≡ false) → word ≡ 0
+unfolding is_set
+word-zero words row at word from below read fits none =
+    same_from_bits_below 64 word 0 fits (let some : 0 < 2 ^ 64 = omega arith in some) (λ i within.
+    let column = (at - row * ROW_WORDS) * WORD_BITS + i in
+    let k = row * ROW_BITS + column in
+    let here : k / WORD_BITS ≡ at = omega (arith, from, within) in
+    let bit : k % WORD_BITS ≡ i = omega (arith, from, within) in
+    let unset = sym (ap (λ j. eqb (bit_at (get_or words j 0) (k % WORD_BITS)) 1) here
+    ∙ (ap (λ b. eqb (bit_at (get_or words at 0) b) 1) bit ∙ ap (λ w. eqb (bit_at w i) 1) (sym read)))
+    ∙ (holds-within words row column (omega (arith, from, below, within)) ∙ none column) in
+    let not_one : bit_at word i ≢ 1 = λ e. false≢true (sym unset ∙ eq-eqb (bit_at word i) 1 e) in
+    omega (arith, bit_at-lt word i, not_one, bit_at-zero i))

@@ -1,4 +1,4 @@
-use Rattle.std.proofs.Common.{◌≡◌, ◌≢◌, ℕ, ◌<◌, Bool, true, false, ◌&&◌, ◌||◌, cond, eqb, List, [], ◌∷◌, ◌++◌, length, get_or, map, filter, flat_map, All, AllPairs, Some, slice_get, bytes_eq, refl, sym, ap, ◌∙◌, subst, inl, inr, arith, append-nil}
+use Rattle.std.proofs.Common.{◌≡◌, ◌≢◌, ℕ, ◌<◌, Bool, true, false, ◌&&◌, ◌||◌, ◌↔◌, cond, eqb, List, [], ◌∷◌, ◌++◌, length, get_or, map, filter, flat_map, All, AllPairs, Some, slice_get, bytes_eq, refl, sym, ap, ◌∙◌, subst, inl, inr, arith, append-nil}
 use Rattle.std.specs.List.{list_any}
 use Rattle.std.specs.Option.{option_map}
 use Rattle.std.proofs.lemmas.Bool.{cases_Bool, false≢true, cond-false, and_parts, and_from, or_cases, or_left, or_right, eqb-true, eq-eqb, false_from_ne_true}
@@ -102,6 +102,16 @@ pair_among-where h ps ns i j differ names_differ below name_below =
     same_bool (pair_among (pairs_where h ps ns) (text_at ps i) (text_at ns j)) (h i j)
     (λ e. sym same ∙ (where-In h ps ns (text_at ps i) (text_at ns j) e).2)
     (λ e. In-where h ps ns (text_at ps i) (text_at ns j) (In-get_or ps i [] below) (In-get_or ns j [] name_below) (same ∙ e))
+
+-- where there is none of a person
+pub where-none : (h : ℕ → ℕ → Bool) (ps ns : List Text) (i : ℕ) → AllPairs (λ a b. a ≢ b) ps → AllPairs (λ a b. a ≢ b) ns → i < length ps
+    → ((j : ℕ) → h i j ≡ true → j < length ns) → ((j : ℕ) → h i j ≡ false) ↔ ((name : Text) → pair_among (pairs_where h ps ns) (text_at ps i) name ≡ false)
+where-none h ps ns i differ names_differ below known = (
+  λ none name. false_from_ne_true (pair_among (pairs_where h ps ns) (text_at ps i) name) (λ e.
+      let m = where-In h ps ns (text_at ps i) name e in
+      false≢true (sym (none (number_in ns name)) ∙ (ap (λ k. h k (number_in ns name)) (sym (number_in-at ps i differ below)) ∙ m.2))),
+  λ none j. false_from_ne_true (h i j) (λ e. false≢true (sym (none (text_at ns j)) ∙ (pair_among-where h ps ns i j differ names_differ below (known j e) ∙ e))),
+)
 
 -- with one pair of numbers more
 pub pair_among-where_more : (h more : ℕ → ℕ → Bool) (ps ns : List Text) (person name : Text) → In person ps → In name ns

@@ -1,6 +1,6 @@
 //! The register of a call, with look-ups by name and by number.
 
-ghost use Rattle.std.specs.Prelude.{◌≡◌, ◌≢◌, ◌+◌, ◌<◌, ◌≤◌, ◌↔◌, Some, None, [], ◌∷◌, ◌++◌, not, ◌&&◌, ◌||◌, nat_le, is_some, IsTrue, IfSome, OnOk, OnErr, length, position, slice_get};
+ghost use Rattle.std.specs.Prelude.{◌≡◌, ◌≢◌, ◌+◌, ◌<◌, ◌≤◌, ◌↔◌, Some, None, false, [], ◌∷◌, ◌++◌, not, ◌&&◌, ◌||◌, nat_le, is_some, IsTrue, IfSome, OnOk, OnErr, length, position, slice_get};
 ghost use Rattle.std.specs.Str.{bytes_eq};
 ghost use Rattle.house_model.specs.Register.{IsRegister, names, persons, placed_names, own_count, cluster_of, person_of, person_number, among, pair_among};
 ghost use Rattle.house_model.specs.Text.{Text};
@@ -224,6 +224,15 @@ impl Book {
         self.roll.find_person(name)
     }
 
+    /// How many applicants the person with a number has.
+    pub fn own_count(&self, person: u32) -> u32
+        requires { person < length (persons self.now) }
+        ensures value { result ≡ own_count self.now (text_at (persons self.now) person) }
+        ensures register { IsRegister self.now }
+    {
+        self.roll.own_at(person)
+    }
+
     /// The cluster into which the person with a number was put. None where it was put into none.
     pub fn cluster(&self, person: u32) -> Option<u32>
         requires { person < length (persons self.now) }
@@ -245,6 +254,15 @@ impl Book {
             (text_at (names self.now) proposal) }
     {
         self.conflicts.has(person, proposal)
+    }
+
+    /// Whether the person with a number is barred from reviewing some applicant.
+    pub fn has_conflict(&self, person: u32) -> bool
+        requires { person < length (persons self.now) }
+        ensures { (result ≡ false)
+            ↔ ((name : Text) → pair_among self.now.barred (text_at (persons self.now) person) name ≡ false) }
+    {
+        self.conflicts.has_any(person)
     }
 
     /// How many pairs of a hand-made assignment there are.

@@ -1,6 +1,6 @@
 //! The applicants with their persons.
 
-ghost use Rattle.std.specs.Prelude.{◌≡◌, ◌+◌, ◌<◌, ◌≤◌, Some, None, false, [], ◌∷◌, ◌++◌, is_some, OnOk, OnErr, length, map, position, slice_get};
+ghost use Rattle.std.specs.Prelude.{◌≡◌, ◌+◌, ◌<◌, ◌≤◌, Some, None, false, [], ◌∷◌, ◌++◌, is_some, OnOk, OnErr, length, map, position, slice_get, slice_index_or};
 ghost use Rattle.std.specs.Str.{bytes_eq};
 ghost use Rattle.house_model.specs.Register.{among};
 ghost use Rattle.register_book.specs.Roll.{names_in, persons_in, own_in, number_in};
@@ -102,6 +102,14 @@ impl Roll {
         ensures { slice_get (map (λ a. number_in (persons_in self.now) a.1) self.now) number ≡ Some result }
     {
         self.owners[number as usize]
+    }
+
+    /// How many applicants the person with a number has.
+    pub fn own_at(&self, person: u32) -> u32
+        requires { person < length (persons_in self.now) }
+        ensures { result ≡ own_in self.now (slice_index_or (persons_in self.now) person []) }
+    {
+        self.own[person as usize]
     }
 
     /// How many applicants a person has.

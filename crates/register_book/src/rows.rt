@@ -1,6 +1,6 @@
 //! Rows of bits, which tell whether a pair of a person and an applicant is held.
 
-ghost use Rattle.std.specs.Prelude.{◌≡◌, ℕ, ◌+◌, ◌*◌, ◌<◌, ◌≤◌, [], ◌==◌, ◌&&◌, ◌||◌, OnOk, OnErr, length};
+ghost use Rattle.std.specs.Prelude.{◌≡◌, ℕ, ◌+◌, ◌*◌, ◌<◌, ◌≤◌, ◌↔◌, false, [], ◌==◌, ◌&&◌, ◌||◌, OnOk, OnErr, length};
 ghost use Rattle.register_book.specs.Rows.{holds};
 
 use std::alloc::{AllocError, Global};
@@ -49,6 +49,20 @@ impl Rows {
             Some(word) => (*word >> (at % WORD_BITS)) & 1 == 1,
             None => false,
         }
+    }
+
+    /// Whether some bit of a row is set.
+    pub fn has_any(&self, row: u32) -> bool
+        requires { (row + 1) * ROW_WORDS ≤ length self.now }
+        ensures { (result ≡ false) ↔ ((column : ℕ) → holds self.now row column ≡ false) }
+    {
+        let first = row as usize * ROW_WORDS;
+        for at in first..first + ROW_WORDS {
+            if self.words[at] != 0 {
+                return true;
+            }
+        }
+        false
     }
 
     /// Sets one bit, and leaves every other.

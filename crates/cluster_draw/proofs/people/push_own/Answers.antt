@@ -1,21 +1,67 @@
-use Rattle.std.proofs.Common.{◌≡◌, ◌++◌, [], sym, ap, ◌∙◌, arith, take, Some, slice_get}
+use Rattle.std.proofs.Common.{◌≡◌, ◌++◌, [], length, sym, ap, ◌∙◌, arith, take, Some, slice_get, append-nil, length-append}
 use Rattle.std.specs.List.{enumerate_from}
 use Rattle.std.proofs.lemmas.Option.{get_or_from_slice_get, same_Some}
-use Rattle.house_model.specs.Register.{persons, person_of}
+use Rattle.house_model.specs.Register.{persons, person_of, own_count}
 use Rattle.house_model.proofs.AtIndexLemmas.{same_index}
 use Rattle.house_model.proofs.GroupLemmas.{bytes_eq-same, bytes_eq-other}
 use Rattle.house_model.proofs.RegisterPeopleLemmas.{Apart-persons}
-use Rattle.register_book.specs.Held.{text_at}
-use Rattle.cluster_draw.proofs.PeopleLemmas.{own_rows, own_rows-more, own_rows-same, own_count-le, applicant_parts, applicant_known, whole_own, length_whole, push_row}
+use Rattle.cluster_draw.proofs.PeopleLemmas.{own_rows, own_rows-more, own_rows-same, own_rows-before, own_rows-most, own_left, applicant_parts, applicant_known, whole_own, push_row}
 use Rattle.cluster_draw.proofs.people.push_own.Goals as goal
 use Rattle.cluster_draw.proofs.people.push_own.Goals.{then-person_of-person+in_ok-push, else-person_of-person}
 
-pub loop-number-preserved : goal.loop-number-preserved
-loop-number-preserved c =
+pub loop-people-init : goal.loop-people-init
+loop-people-init c =
+    let before = c.args.people.now.items in
+    sym (ap (λ l. before ++ l) (own_rows-before c.args.book.now c.args.person c.unwrap_or-cluster.result c.person_name-name.result c.person_name-name.ensures) ∙ append-nil before)
+
+pub overflow_cast-len : goal.overflow_cast-len
+overflow_cast-len c =
     let reg = c.args.book.now in
     let name = c.person_name-name.result in
     let cluster = c.unwrap_or-cluster.result in
-    let number = c.loop-number.number in
+    let number = c.loop-people.number in
+    let before = c.args.people.now.items in
+    let rows = own_rows name cluster (enumerate_from 0 (take number reg.applicants)) in
+    omega (arith, ap length c.loop-people.invariant, length-append before rows, own_rows-most reg number cluster name, c.own_count-own.ensures.register.own name)
+
+pub person_of-requires : goal.person_of-requires
+person_of-requires c =
+    let reg = c.args.book.now in
+    let own = c.own_count-own.ensures.value ∙ ap (own_count reg) (get_or_from_slice_get (persons reg) c.args.person c.person_name-name.result [] c.person_name-name.ensures) in
+    own_left reg c.loop-people.number c.unwrap_or-cluster.result c.person_name-name.result c.args.people.now.items c.loop-people.people.items
+    (omega (arith, c.loop-people-test.true, own)) c.loop-people.invariant
+
+pub name-requires : goal.name-requires
+name-requires c =
+    let reg = c.args.book.now in
+    let own = c.own_count-own.ensures.value ∙ ap (own_count reg) (get_or_from_slice_get (persons reg) c.args.person c.person_name-name.result [] c.person_name-name.ensures) in
+    own_left reg c.loop-people.number c.unwrap_or-cluster.result c.person_name-name.result c.args.people.now.items c.loop-people.people.items
+    (omega (arith, c.loop-people-test.true, own)) c.loop-people.invariant
+
+pub overflow_add-number : goal.overflow_add-number
+overflow_add-number c =
+    let reg = c.args.book.now in
+    let own = c.own_count-own.ensures.value ∙ ap (own_count reg) (get_or_from_slice_get (persons reg) c.args.person c.person_name-name.result [] c.person_name-name.ensures) in
+    let left =
+    own_left reg c.loop-people.number c.unwrap_or-cluster.result c.person_name-name.result c.args.people.now.items c.loop-people.people.items
+    (omega (arith, c.loop-people-test.true, own)) c.loop-people.invariant in
+    omega (arith, left, c.own_count-own.ensures.register.few)
+
+pub loop-people-smaller : goal.loop-people-smaller
+loop-people-smaller c =
+    let reg = c.args.book.now in
+    let own = c.own_count-own.ensures.value ∙ ap (own_count reg) (get_or_from_slice_get (persons reg) c.args.person c.person_name-name.result [] c.person_name-name.ensures) in
+    let left =
+    own_left reg c.loop-people.number c.unwrap_or-cluster.result c.person_name-name.result c.args.people.now.items c.loop-people.people.items
+    (omega (arith, c.loop-people-test.true, own)) c.loop-people.invariant in
+    omega (arith, left)
+
+pub loop-people-preserved : goal.loop-people-preserved
+loop-people-preserved c =
+    let reg = c.args.book.now in
+    let name = c.person_name-name.result in
+    let cluster = c.unwrap_or-cluster.result in
+    let number = c.loop-people.number in
     let owner = person_of reg number in
     let before = c.args.people.now.items in
     let rows = own_rows name cluster (enumerate_from 0 (take number reg.applicants)) in
@@ -25,12 +71,13 @@ loop-number-preserved c =
           same_Some (person_of reg number) name (sym c.person_of.ensures.person ∙ (ap (slice_get (persons reg)) w.if-person_of-person.true ∙ c.person_name-name.ensures)) in
           ap (λ v. v.items) w.people-is
           ∙ (w.in_ok-push.ensures.items
-          ∙ (push_row c.loop-number.people.items before rows (record { name = w.name.result; cluster = cluster; number = number }) c.loop-number.invariant
+          ∙ (push_row c.loop-people.people.items before rows (record { name = w.name.result; cluster = cluster; number = number }) c.loop-people.invariant
           ∙ ap (λ l. before ++ l) (sym (own_rows-more name cluster reg.applicants number (w.name.result, owner) (applicant_parts reg number w.name.result w.name.ensures) (bytes_eq-same owner name same)))))
       | else-person_of-person w ↦
-          let listed = applicant_known reg number (omega (arith, c.loop-number-test.true, c.count-number-end.ensures.value)) in
+          let own = c.own_count-own.ensures.value ∙ ap (own_count reg) (get_or_from_slice_get (persons reg) c.args.person name [] c.person_name-name.ensures) in
+          let listed = applicant_known reg number (own_left reg number cluster name before c.loop-people.people.items (omega (arith, c.loop-people-test.true, own)) c.loop-people.invariant) in
           ap (λ v. v.items) w.people-is
-          ∙ (c.loop-number.invariant
+          ∙ (c.loop-people.invariant
           ∙ ap (λ l. before ++ l) (sym (own_rows-same name cluster reg.applicants number (listed.0, owner) listed.1
           (bytes_eq-other owner name (λ e. w.if-person_of-person.false
           (same_index (persons reg) c.person_of.result c.args.person name (Apart-persons reg) (c.person_of.ensures.person ∙ ap Some e) c.person_name-name.ensures))))))
@@ -38,36 +85,9 @@ loop-number-preserved c =
 
 pub returns-clause-people : goal.returns-clause-people
 returns-clause-people c =
-    whole_own c.args.book.now c.args.person c.loop-number.number c.unwrap_or-cluster.result c.person_name-name.result c.cluster.result c.args.people.now.items c.loop-number.people.items
+    whole_own c.args.book.now c.args.person c.loop-people.number c.unwrap_or-cluster.result c.person_name-name.result c.cluster.result c.args.people.now.items c.loop-people.people.items
     c.person_name-name.ensures c.cluster.ensures.placed c.cluster.ensures.cluster c.unwrap_or-cluster.ensures
-    (omega (arith, c.loop-number-test.false, c.count-number-end.ensures.value)) c.loop-number.invariant
-
-pub overflow_cast-result : goal.overflow_cast-result
-overflow_cast-result c =
-    let person = text_at (persons c.args.book.now) c.args.person in
-    let whole =
-    whole_own c.args.book.now c.args.person c.loop-number.number c.unwrap_or-cluster.result c.person_name-name.result c.cluster.result c.args.people.now.items c.loop-number.people.items
-    c.person_name-name.ensures c.cluster.ensures.placed c.cluster.ensures.cluster c.unwrap_or-cluster.ensures
-    (omega (arith, c.loop-number-test.false, c.count-number-end.ensures.value)) c.loop-number.invariant in
-    omega (arith, length_whole c.args.book.now person c.args.people.now.items c.loop-number.people.items whole, own_count-le c.args.book.now person, c.count-number-end.ensures.register.few)
+    (omega (arith, c.loop-people-test.false, c.own_count-own.ensures.value)) c.loop-people.invariant
 
 pub returns-clause-name : goal.returns-clause-name
 returns-clause-name c = sym (get_or_from_slice_get (persons c.args.book.now) c.args.person c.person_name-name.result [] c.person_name-name.ensures)
-
-pub returns-clause-own : goal.returns-clause-own
-returns-clause-own c =
-    let person = text_at (persons c.args.book.now) c.args.person in
-    let whole =
-    whole_own c.args.book.now c.args.person c.loop-number.number c.unwrap_or-cluster.result c.person_name-name.result c.cluster.result c.args.people.now.items c.loop-number.people.items
-    c.person_name-name.ensures c.cluster.ensures.placed c.cluster.ensures.cluster c.unwrap_or-cluster.ensures
-    (omega (arith, c.loop-number-test.false, c.count-number-end.ensures.value)) c.loop-number.invariant in
-    omega (arith, length_whole c.args.book.now person c.args.people.now.items c.loop-number.people.items whole)
-
-pub returns-clause-few_own : goal.returns-clause-few_own
-returns-clause-few_own c =
-    let person = text_at (persons c.args.book.now) c.args.person in
-    let whole =
-    whole_own c.args.book.now c.args.person c.loop-number.number c.unwrap_or-cluster.result c.person_name-name.result c.cluster.result c.args.people.now.items c.loop-number.people.items
-    c.person_name-name.ensures c.cluster.ensures.placed c.cluster.ensures.cluster c.unwrap_or-cluster.ensures
-    (omega (arith, c.loop-number-test.false, c.count-number-end.ensures.value)) c.loop-number.invariant in
-    omega (arith, length_whole c.args.book.now person c.args.people.now.items c.loop-number.people.items whole, c.count-number-end.ensures.register.own person)

@@ -1,0 +1,46 @@
+use Rattle.std.proofs.Common.{◌≡◌, ℕ, ◌+◌, ◌<◌, ◌≤◌, Bool, true, false, List, length, get_or, set, sym, ap, ◌∙◌, inl, inr, arith}
+use Rattle.std.proofs.lemmas.Bool.{cases_eq}
+use Rattle.std.proofs.lemmas.List.{get_or-set_same, get_or-set_other}
+use Rattle.house_model.specs.Counting.{count_below}
+use Rattle.first_assign.proofs.StepLemmas.{count_passes, count_fails}
+
+-- Counts of columns, row by row.
+
+-- counts of the columns of a square: those before a column go as far as a row, the others stop before it
+pub record AreCounts (f : ℕ → ℕ → Bool) (row column n : ℕ) (counts : List ℕ) : Type 0 where
+  pub done : (p : ℕ) → p < column → get_or counts p 0 ≡ count_below (λ r. f r p) (row + 1)
+  pub rest : (p : ℕ) → column ≤ p → p < n → get_or counts p 0 ≡ count_below (λ r. f r p) row
+
+pub counts_begin : (f : ℕ → ℕ → Bool) (row n : ℕ) (counts : List ℕ)
+    → ((p : ℕ) → p < n → get_or counts p 0 ≡ count_below (λ r. f r p) row) → AreCounts f row 0 n counts
+counts_begin f row n counts before = record {
+  done = λ p pl. absurd (let wrong : ⊥ = omega (arith, pl) in wrong);
+  rest = λ p from pl. before p pl;
+}
+
+pub counts_more : (f : ℕ → ℕ → Bool) (row column n v : ℕ) (counts : List ℕ) → f row column ≡ true → column < length counts → v ≡ get_or counts column 0 → column < n
+    → AreCounts f row column n counts → AreCounts f row (column + 1) n (set counts column (v + 1))
+counts_more f row column n v counts here below read inside before = record {
+  done = λ p pl. elim (cases_eq p column) [
+    | inl same ↦
+        ap (λ q. get_or (set counts column (v + 1)) q 0) same
+        ∙ (get_or-set_same counts column (v + 1) 0 below
+        ∙ (ap (λ k. k + 1) (read ∙ before.rest column (omega arith) inside)
+        ∙ (sym (count_passes (λ r. f r column) row here) ∙ ap (λ q. count_below (λ r. f r q) (row + 1)) (sym same))))
+    | inr other ↦ get_or-set_other counts column p (v + 1) 0 other ∙ before.done p (omega (arith, pl, other))
+  ];
+  rest = λ p from pl. get_or-set_other counts column p (v + 1) 0 (λ e. omega (arith, e, from)) ∙ before.rest p (omega (arith, from)) pl;
+}
+
+pub counts_same : (f : ℕ → ℕ → Bool) (row column n : ℕ) (counts : List ℕ) → f row column ≡ false → column < n
+    → AreCounts f row column n counts → AreCounts f row (column + 1) n counts
+counts_same f row column n counts here inside before = record {
+  done = λ p pl. elim (cases_eq p column) [
+    | inl same ↦
+        ap (λ q. get_or counts q 0) same
+        ∙ (before.rest column (omega arith) inside
+        ∙ (sym (count_fails (λ r. f r column) row here) ∙ ap (λ q. count_below (λ r. f r q) (row + 1)) (sym same)))
+    | inr other ↦ before.done p (omega (arith, pl, other))
+  ];
+  rest = λ p from pl. before.rest p (omega (arith, from)) pl;
+}

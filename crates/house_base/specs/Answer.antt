@@ -20,7 +20,6 @@ reason_word reason.Few = codes "few"
 reason_word reason.Unplaced = codes "unplaced"
 reason_word reason.Invalid = codes "invalid"
 reason_word reason.Unfinished = codes "unfinished"
-reason_word reason.Later = codes "later"
 
 -- one more, up to the greatest number of 64 bits
 abbrev pub raised : ℕ → ℕ

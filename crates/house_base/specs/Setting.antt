@@ -59,7 +59,9 @@ need s place = option_map_or (λ owner. s.reviews * owner.own) (owner_from s pla
 
 -- A person, named by its first place, may review an applicant of another cluster, unless the pair is barred.
 unfoldable pub may : Setting → ℕ → ℕ → Bool
-may s reviewer proposal = is_some (owner_from s reviewer) && not (cluster_at s reviewer == cluster_at s proposal) && not (cell s.barred reviewer proposal)
+may s reviewer proposal =
+    is_some (owner_from s reviewer) && not (cluster_at s reviewer == cluster_at s proposal)
+    && not (cell s.barred reviewer proposal)
 
 -- how far a proposal stands behind a reviewer, round n places: 0 for the next one
 unfoldable pub distance : ℕ → ℕ → ℕ → ℕ
@@ -90,5 +92,7 @@ pub record IsSetting (s : Setting) : Type 0 where
   pub owners_differ : AllPairs (λ a b. a ≢ b) (map (λ owner. owner.name) s.owners)
   pub own : All (λ owner. (1 ≤ owner.own) × (owner.own ≤ MOST_OWN)) s.owners
   pub in_turn : StandInTurn 0 s.owners (size s)
-  pub one_cluster : All (λ owner. (place : ℕ) → IsOwned owner place → cluster_at s place ≡ cluster_at s owner.first) s.owners
-  pub rising : All (λ owner. (place : ℕ) → IsOwned owner place → IsOwned owner (place + 1) → number_at s place < number_at s (place + 1)) s.owners
+  pub one_cluster : All (λ owner. (place : ℕ) → IsOwned owner place
+      → cluster_at s place ≡ cluster_at s owner.first) s.owners
+  pub rising : All (λ owner. (place : ℕ) → IsOwned owner place → IsOwned owner (place + 1)
+      → number_at s place < number_at s (place + 1)) s.owners

@@ -11,7 +11,8 @@ pub record GivesPlaces (s : Setting) (table : List ℕ) : Type 0 where
 -- a table gives for each place the index of the person to whom it belongs
 pub record GivesOwners (owners : List Owner) (table : List ℕ) : Type 0 where
   pub room : length table ≡ MOST_APPLICANTS
-  pub owner : (index place : ℕ) (owner : Owner) → slice_get owners index ≡ Some owner → IsOwned owner place → slice_index table place ≡ index
+  pub owner : (index place : ℕ) (owner : Owner) → slice_get owners index ≡ Some owner → IsOwned owner place
+      → slice_index table place ≡ index
 
 -- what holds of each plan: it is of a setting, and its tables are
 pub record IsPlan (s : Setting) (places owners : List ℕ) : Type 0 where

@@ -32,8 +32,6 @@ pub enum Reason {
     Invalid,
     /// The input ends before a draw.
     Unfinished,
-    /// What the line asks for cannot be done yet.
-    Later,
 }
 
 impl Reason {
@@ -55,7 +53,6 @@ impl Reason {
             Reason::Unplaced => "unplaced",
             Reason::Invalid => "invalid",
             Reason::Unfinished => "unfinished",
-            Reason::Later => "later",
         }
     }
 }

@@ -5,3 +5,4 @@ pub mod Sink
 pub mod Files
 pub mod Collected
 pub mod ScriptedFiles
+pub mod Script

@@ -78,11 +78,13 @@ pub trait Files {
         ensures unchanged { contents self.new ≡ contents self.old }
         ensures ready { StaysReady (ready self.old) (ready self.new) }
 
-        ensures content { IfOk result (λ bytes. IfSome (contents self.old) (λ files. map.get files name.now ≡ Some bytes.items)) }
+        ensures content { IfOk result (λ bytes. IfSome (contents self.old) (λ files. map.get files name.now
+            ≡ Some bytes.items)) }
         ensures short { IfOk result (λ bytes. vec_len bytes ≤ most) }
 
         // The cause of each error. Want of memory has none.
-        ensures absent { IfSome (contents self.old) (λ files. map.get files name.now ≡ None → IsErrOf result LoadFault.Failed) }
+        ensures absent { IfSome (contents self.old) (λ files. map.get files name.now ≡ None
+            → IsErrOf result LoadFault.Failed) }
         ensures failed { IsErrOf result LoadFault.Failed → Rose (faults self.old) (faults self.new) }
         ensures long { IsErrOf result LoadFault.Long →
             MatchOption (contents self.old) (Rose (faults self.old) (faults self.new)) (λ files. IsLonger files name.now most) }

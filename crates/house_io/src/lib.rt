@@ -8,8 +8,10 @@ pub mod faults;
 pub mod files;
 pub mod map_shelf;
 pub mod plain;
+mod script;
 pub mod sink;
 pub mod source;
+pub mod text;
 
 pub use adapters::{InputSource, OutputSink};
 pub use faults::Failed;
@@ -18,3 +20,4 @@ pub use map_shelf::MapShelf;
 pub use plain::{PlainSink, PlainSource};
 pub use sink::Sink;
 pub use source::Source;
+pub use text::{TextSink, TextSource};

@@ -107,7 +107,8 @@ impl Files for MapShelf {
     ghost faults = { λ shelf. shelf.faults };
 
     fn load(&mut self, alloc: Global, name: &str, most: usize) -> Result<Vec<u8>, LoadFault>
-        ensures called { self.new ≡ (if answers_failed result then after_failed_call self.old else after_call self.old) }
+        ensures called { self.new
+            ≡ (if answers_failed result then after_failed_call self.old else after_call self.old) }
         ensures content { IfOk result (λ bytes. map.get self.old.files name.now ≡ Some bytes.items) }
         ensures short { IfOk result (λ bytes. vec_len bytes ≤ most) }
 

@@ -12,7 +12,7 @@ use Rattle.house_model.specs.Report.{outcome_text}
 use Rattle.house_model.specs.Text.{Lines}
 use Rattle.house_model.specs.Said.{setting, assigned, draw_of}
 use Rattle.house_model.specs.Reviews.{asides_of, profile}
-use Rattle.house_model.specs.Transitional.{report_of}
+use Rattle.house_model.specs.Runs.{report_of}
 use Rattle.house_model.specs.declared.goal.Goal.TheVariants as goal
 use Rattle.house_model.proofs.ReportLemmas.{outcome_by_quota, report-by_quota}
 use Rattle.house_model.proofs.WorkedLemmas.{pairs_pass, in_one_cluster, in_rising_number, IsSetting-by_tests}

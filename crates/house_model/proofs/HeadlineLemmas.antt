@@ -1,11 +1,9 @@
 -- What is promised of the lines of a call.
-use Rattle.std.proofs.Common.{◌≡◌, ℕ, refl, sym, suc, arith}
-use Rattle.house_base.specs.Setting.{size}
+use Rattle.std.proofs.Common.{refl, sym, suc, arith}
 use Rattle.house_model.specs.declared.goal.Goal.TheVariants as goal
-use Rattle.house_model.specs.Headline.{AreOfCall, ChancesAreCounted, OwnReviewsChangeNoChance, SeatsAreQuotasRounded, QuotasAreMeans}
-use Rattle.house_model.specs.Isolation.{without, GiveAssignment}
+use Rattle.house_model.specs.Headline.{AreOfCall, ChancesAreCounted, OwnReviewsChangeNoChance, SeatsAreQuotasRounded, QuotasAreMeans, OrderOfArrivalChangesNothing}
+use Rattle.house_model.specs.Isolation.{GiveAssignment}
 use Rattle.house_model.specs.Lottery.{chance}
-use Rattle.house_model.specs.Profile.{Profile}
 use Rattle.house_model.specs.Reviews.{profile}
 use Rattle.house_model.specs.Said.{draw_of}
 use Rattle.house_model.specs.Text.{Lines}
@@ -13,7 +11,8 @@ use Rattle.house_model.proofs.ClusterLemmas.{cumulative_quota-all}
 use Rattle.house_model.proofs.SeatLemmas.{seats-all, seats-rounded, cumulative_quota-mono}
 use Rattle.house_model.proofs.ChanceLemmas.{seats-all_draws}
 use Rattle.house_model.proofs.OwnReviewLemmas.{chance-without, chance-one}
-use Rattle.house_model.proofs.DoneLemmas.{end_of-without}
+use Rattle.house_model.proofs.DoneLemmas.{done-without}
+use Rattle.house_model.proofs.InterleavingLemmas.{done-arrival, report-arrival}
 
 assignment : (lines : Lines) → AreOfCall lines → GiveAssignment lines
 unfolding profile
@@ -26,7 +25,7 @@ counted lines of p below = refl
 pub isolated : (lines : Lines) → AreOfCall lines → OwnReviewsChangeNoChance lines
 isolated lines of = record {
   left_out = λ name p own. chance-without name lines p (assignment lines of) own;
-  still_done = λ name. (end_of-without goal.Run name lines).1 of.done;
+  still_done = λ name. (done-without goal.Run name lines).1 of.done;
   rewritten = λ name others p own same. sym (chance-one name lines others (sym same) p (assignment lines of) own);
 }
 
@@ -42,3 +41,9 @@ unfolding profile
 means lines of i below =
     let f = profile lines in
     seats-all_draws f i (omega (arith, cumulative_quota-mono f (suc i) f.setting.clusters below, cumulative_quota-all f of.assigned.setting of.assigned.valid))
+
+pub in_any_order : (lines : Lines) → AreOfCall lines → OrderOfArrivalChangesNothing lines
+in_any_order lines of = record {
+  still_done = λ others h. done-arrival lines others h of.done;
+  same_report = λ others h. report-arrival lines others h of.done;
+}

@@ -2,16 +2,16 @@
 use Rattle.std.proofs.Common.{◌≡◌, ℕ, ◌<◌, Bool, true, false, not, ◌||◌, cond, eqb, List, [], ◌∷◌, ◌++◌, filter, find, Some, refl, sym, ap, ◌∙◌, inl, inr, arith, append-nil}
 use Rattle.std.specs.Prelude.{slice_get, slice_index, codes}
 use Rattle.std.specs.List.{list_any}
-use Rattle.std.specs.Option.{option_map_or}
+use Rattle.std.specs.Option.{option_map, option_map_or}
 use Rattle.std.proofs.lemmas.Bool.{both_ways, or_cases, and_right, cond-false, cond_both, eqb-true, false_from_ne_true, not_from_true, and_cases, not-false, not_from_false, cases_Bool}
 use Rattle.std.proofs.lemmas.List.Elements.{filter-append}
 use Rattle.house_model.specs.declared.goal.Goal.{Goal}
+use Rattle.house_model.specs.declared.goal.Goal.TheVariants as goal
 use Rattle.house_model.specs.declared.verb.Verb.{Verb}
 use Rattle.house_model.specs.declared.verb.Verb.TheVariants as verb
 use Rattle.house_model.specs.Text.{Text, Lines, words, word, is_blank, is_empty}
 use Rattle.house_model.specs.Verbs.{verb_of, verb_in, verb_number, commands, is_review, is_house}
-use Rattle.house_model.specs.Register.{Register, name_pair}
-use Rattle.house_model.specs.Said.{has, those, phase_after, call_number, number, register, draw_of, setting, assigned}
+use Rattle.house_model.specs.Said.{has, those, phase_after, call_number, number, register, seed_of, seal_of, spelled, draw_of, setting, has_pairs, run_pairs, assigned}
 use Rattle.house_model.specs.Reviews.{kind_of, kind_tests}
 use Rattle.house_model.specs.Isolation.{HaveSameHouse}
 use Rattle.house_model.proofs.GroupLemmas.{same_text}
@@ -94,7 +94,7 @@ no_house_other line outside =
 pub no_command : (v : Verb) (line : Text) → verb_number v < 11 → verb_in line ≡ verb.Other → commands v line ≡ false
 no_command v line l other = ap (λ w. eqb (verb_number w) (verb_number v)) other ∙ false_from_ne_true (eqb 11 (verb_number v)) (λ e. absurd (omega (arith, eqb-true 11 (verb_number v) e)))
 
-command_of_house : (v : Verb) → verb_number v < 11 → (line : Text) → commands v line ≡ true → is_house line ≡ true
+pub command_of_house : (v : Verb) → verb_number v < 11 → (line : Text) → commands v line ≡ true → is_house line ≡ true
 unfolding is_house
 command_of_house v l line h =
     let no_blank : is_blank line ≡ false = false_from_ne_true (is_blank line) (λ blank. both_ways (commands v line) (no_command v line l (blank_other line blank)) h) in
@@ -130,22 +130,39 @@ module _ (a b : Lines) (same : HaveSameHouse a b) where
   unfolding call_number
   call_number-same i = ap (λ o. option_map_or (λ line. number (word line i)) o 0) (find-same verb.Call (omega arith))
 
-  pub draw_of-same : draw_of a ≡ draw_of b
-  unfolding draw_of
-  draw_of-same = ap (λ o. option_map_or (λ line. number (word line 1)) o 0) (find-same verb.Draw (omega arith))
-
   pub register-same : register a ≡ register b
   unfolding register
   register-same =
       rw (those-same verb.Applicant (omega arith), those-same verb.Place (omega arith), those-same verb.Conflict (omega arith), those-same verb.Pair (omega arith)) refl
 
+  pub seed_of-same : seed_of a ≡ seed_of b
+  unfolding seed_of
+  seed_of-same = ap (option_map (λ line. word line 1)) (find-same verb.Partition (omega arith))
+
+  pub seal_of-same : seal_of a ≡ seal_of b
+  unfolding seal_of
+  seal_of-same = ap (option_map (λ line. spelled (word line 1))) (find-same verb.Seal (omega arith))
+
+  pub draw_of-same : draw_of a ≡ draw_of b
+  unfolding draw_of
+  draw_of-same = rw (find-same verb.Draw (omega arith), find-same verb.Lottery (omega arith), register-same) refl
+
   pub setting-same : setting a ≡ setting b
   unfolding setting
-  setting-same = rw (call_number-same 1, call_number-same 2, call_number-same 3, register-same) refl
+  setting-same = rw (seed_of-same, call_number-same 1, call_number-same 2, call_number-same 3, register-same) refl
+
+  pub has_pairs-same : has_pairs a ≡ has_pairs b
+  unfolding has_pairs
+  has_pairs-same = rw register-same refl
+
+  pub run_pairs-same : run_pairs a ≡ run_pairs b
+  unfolding run_pairs
+  run_pairs-same = rw (has_pairs-same, register-same, setting-same) refl
 
   pub assigned-same : (g : Goal) → assigned g a ≡ assigned g b
-  unfolding assigned
-  assigned-same g = ap (λ (reg : Register). name_pair reg.pairs (setting a)) register-same ∙ ap (name_pair (register b).pairs) setting-same
+  assigned-same goal.Run = run_pairs-same
+  assigned-same goal.Pairs = run_pairs-same
+  assigned-same goal.Feasible = refl
 
   -- a review line is of one kind after both
   pub kind_of-same : (g : Goal) (line : Text) → kind_of g a line ≡ kind_of g b line

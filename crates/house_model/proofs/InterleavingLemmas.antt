@@ -9,7 +9,7 @@ use Rattle.house_model.specs.Profile.{Pairs, Points, Profile}
 use Rattle.house_model.specs.Reviews.{asides_of, points_of, profile}
 use Rattle.house_model.specs.Said.{setting, assigned, draw_of}
 use Rattle.house_model.specs.Text.{Lines}
-use Rattle.house_model.specs.Transitional.{end_of, report_of}
+use Rattle.house_model.specs.Runs.{end_of, report_of}
 use Rattle.house_model.proofs.AsideCountLemmas.{asides_of-interleaved}
 use Rattle.house_model.proofs.DoneLemmas.{done-house, done-admitted}
 use Rattle.house_model.proofs.HouseLineLemmas.{setting-same, assigned-same, draw_of-same}
@@ -26,15 +26,15 @@ module _ (a b : Lines) (h : AreInterleaved a b) where
   unfolding profile
   profile-arrival done =
       let points : points_of b ≡ points_of a =
-      fun_ext (λ r. fun_ext (λ p. points_of-interleaved a b h (done-admitted goal.Run a done) (done-admitted goal.Run b (done-arrival done)) r p)) in
+      fun_ext (λ r. fun_ext (λ p. points_of-interleaved a b h (done-admitted a done) (done-admitted b (done-arrival done)) r p)) in
       let made : Setting → Pairs → Points → Profile = λ s pairs given. record { setting = s; pairs = pairs; points = given } in
       ap (λ s. made s (assigned goal.Run b) (points_of b)) (sym (setting-same a b h.same_house))
       ∙ (ap (λ pairs. made (setting a) pairs (points_of b)) (sym (assigned-same a b h.same_house goal.Run)) ∙ ap (made (setting a) (assigned goal.Run a)) points)
 
   pub asides-arrival : end_of goal.Run a ≡ Ended.Done → asides_of goal.Run b ≡ asides_of goal.Run a
   asides-arrival done =
-      asides_of-interleaved goal.Run a b h (record { parts = refl; admitted = done-admitted goal.Run a done })
-      (record { parts = refl; admitted = done-admitted goal.Run b (done-arrival done) })
+      asides_of-interleaved goal.Run a b h (record { parts = refl; admitted = done-admitted a done })
+      (record { parts = refl; admitted = done-admitted b (done-arrival done) })
 
   pub report-arrival : end_of goal.Run a ≡ Ended.Done → report_of b ≡ report_of a
   unfolding report_of

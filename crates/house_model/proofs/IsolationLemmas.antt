@@ -10,13 +10,13 @@ use Rattle.house_model.specs.Report.{name_at}
 use Rattle.house_model.specs.Text.{Text, Lines, word}
 use Rattle.house_model.specs.Verbs.{is_review, is_house}
 use Rattle.house_model.specs.Register.{reviewer_at}
-use Rattle.house_model.specs.Said.{register, phase_after, draw_of, setting, assigned}
+use Rattle.house_model.specs.Said.{register, seed_of, seal_of, phase_after, draw_of, setting, assigned}
 use Rattle.house_model.specs.Reviews.{kind_of, kept_after, points_of}
 use Rattle.house_model.specs.Isolation.{HaveSameHouse, is_by, without}
 use Rattle.house_model.proofs.GroupLemmas.{same_text, bytes_eq-other, bytes_eq-same}
-use Rattle.house_model.proofs.HouseLineLemmas.{filter-within, review_no_house, house_no_review, phase_after-same, register-same, setting-same, assigned-same, draw_of-same, kind_of-same, same-push, same-left}
+use Rattle.house_model.proofs.HouseLineLemmas.{filter-within, review_no_house, house_no_review, phase_after-same, register-same, seed_of-same, seal_of-same, setting-same, assigned-same, draw_of-same, kind_of-same, same-push, same-left}
 
-house_not_by : (name line : Text) → is_house line ≡ true → not (is_by name line) ≡ true
+pub house_not_by : (name line : Text) → is_house line ≡ true → not (is_by name line) ≡ true
 unfolding is_by
 house_not_by name line house = not_from_false (is_review line && bytes_eq (word line 1) name) (and_left (is_review line) (bytes_eq (word line 1) name) (house_no_review line house))
 
@@ -41,6 +41,12 @@ module _ (name : Text) (lines : Lines) where
 
   pub assigned-without : (g : Goal) → assigned g (without name lines) ≡ assigned g lines
   assigned-without = assigned-same (without name lines) lines (without-house name lines)
+
+  pub seed_of-without : seed_of (without name lines) ≡ seed_of lines
+  seed_of-without = seed_of-same (without name lines) lines (without-house name lines)
+
+  pub seal_of-without : seal_of (without name lines) ≡ seal_of lines
+  seal_of-without = seal_of-same (without name lines) lines (without-house name lines)
 
   pub phase_after-without : phase_after (without name lines) ≡ phase_after lines
   phase_after-without = phase_after-same (without name lines) lines (without-house name lines)

@@ -19,9 +19,9 @@ use Rattle.house_model.specs.Isolation.{HaveSameHouse}
 use Rattle.house_model.specs.Register.{names, persons, reviewer_at, among}
 use Rattle.house_model.specs.Report.{name_at}
 use Rattle.house_model.specs.Reviews.{is_before_assignment, is_after_close, is_assigned, kind_of, kind_tests, first_of_kinds, kept_after, points_of}
-use Rattle.house_model.specs.Said.{register, phase_after, call_number, setting, assigned}
+use Rattle.house_model.specs.Said.{register, phase_after, call_number, seed_of, seal_of, setting, assigned}
 use Rattle.house_model.specs.Text.{Text, Lines, words, word}
-use Rattle.house_model.specs.Transitional.{refusal}
+use Rattle.house_model.specs.Runs.{halt}
 use Rattle.house_model.specs.Verbs.{is_review}
 use Rattle.house_model.proofs.HouseLineLemmas.{filter-within, register-same, setting-same, assigned-same}
 use Rattle.house_model.proofs.IsolationLemmas.{is_on}
@@ -66,20 +66,20 @@ kind_at-same g a b same p line = rw (register-same a b same, setting-same a b sa
 -- The whole list is read as lines before and lines after, of which none is refused.
 pub record IsReadAt (g : Goal) (whole before lines : Lines) : Type 0 where
   pub parts : before ++ lines ≡ whole
-  pub admitted : is_none (stop_after (refusal g) before lines) ≡ true
+  pub admitted : is_none (stop_after (halt g) before lines) ≡ true
 
 module _ (g : Goal) (whole before : Lines) (line : Text) (lines : Lines) (h : IsReadAt g whole before (line ∷ lines)) where
   pub read_on : IsReadAt g whole (before ++ line ∷ []) lines
   read_on = record {
     parts = append_assoc before (line ∷ []) lines ∙ h.parts;
-    admitted = (admitted_parts (refusal g before line) (λ r. (length before + 1, r)) (stop_after (refusal g) (before ++ line ∷ []) lines) h.admitted).1;
+    admitted = (admitted_parts (halt g before line) (λ r. (length before + 1, r)) (stop_after (halt g) (before ++ line ∷ []) lines) h.admitted).1;
   }
 
   pub kind_of-read : kind_of g before line ≡ kind_at g (phase_after before) whole line
   kind_of-read =
       kind_of-at g before whole line (λ late.
       let kept = record-kept g before (line ∷ lines) late h.admitted in
-      record { register = kept.register ∙ ap register h.parts; call = λ i. kept.call i ∙ ap (λ xs. call_number xs i) h.parts })
+      record { register = kept.register ∙ ap register h.parts; call = λ i. kept.call i ∙ ap (λ xs. call_number xs i) h.parts; seed = kept.seed ∙ ap seed_of h.parts; seal = kept.seal ∙ ap seal_of h.parts })
 
 -- The kept lines are the kept ones among those of the reviewing.
 
@@ -149,7 +149,7 @@ kept_on whole s r p line h =
     (and_parts (bytes_eq (word line 1) (reviewer_at s r)) (bytes_eq (word line 2) (name_at s p)) both.1).0
 
 -- the kept lines on a pair, where no line is refused, are among the lines of the reviewer
-kept_on-standing : (lines : Lines) (s : Setting) (r p : ℕ) → is_none (stop_after (refusal goal.Run) [] lines) ≡ true →
+kept_on-standing : (lines : Lines) (s : Setting) (r p : ℕ) → is_none (stop_after (halt goal.Run) [] lines) ≡ true →
     filter (is_on s r p) (kept_after [] lines) ≡ filter (λ line. is_kept lines line && is_on s r p line) (reviews_naming (reviewer_at s r) (standing_in phase.Reviewing lines))
 unfolding standing_in
 kept_on-standing lines s r p admitted =
@@ -161,7 +161,7 @@ is_kept-same : (a b : Lines) → HaveSameHouse a b → is_kept a ≡ is_kept b
 unfolding is_kept
 is_kept-same a b same = fun_ext (λ line. ap (λ k. is_review line && is_none k) (kind_at-same goal.Run a b same phase.Reviewing line))
 
-module _ (a b : Lines) (h : AreInterleaved a b) (admitted_a : is_none (stop_after (refusal goal.Run) [] a) ≡ true) (admitted_b : is_none (stop_after (refusal goal.Run) [] b) ≡ true) where
+module _ (a b : Lines) (h : AreInterleaved a b) (admitted_a : is_none (stop_after (halt goal.Run) [] a) ≡ true) (admitted_b : is_none (stop_after (halt goal.Run) [] b) ≡ true) where
   kept_on-interleaved : (s : Setting) (r p : ℕ) → filter (is_on s r p) (kept_after [] b) ≡ filter (is_on s r p) (kept_after [] a)
   kept_on-interleaved s r p =
       kept_on-standing b s r p admitted_b

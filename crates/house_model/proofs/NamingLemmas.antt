@@ -26,7 +26,7 @@ name_of_number reg person m =
     ap (slice_get (map (λ a. a.0) reg.applicants)) (ap (λ p. p.number) r.2) ∙ (read ∙ ap Some (sym (ap (λ p. p.name) r.2)))
 
 -- a number of one person's applicants is that of an applicant of this person
-person_of_own : (reg : Register) (person : Text) (number : ℕ) → In number (map (λ p. p.number) (own_people reg person)) → slice_get (map (λ a. a.1) reg.applicants) number ≡ Some person
+pub person_of_own : (reg : Register) (person : Text) (number : ℕ) → In number (map (λ p. p.number) (own_people reg person)) → slice_get (map (λ a. a.1) reg.applicants) number ≡ Some person
 unfolding own_people
 person_of_own reg person number m =
     let r = map-In (λ e. e.0) number (own_entries reg person) (subst (λ l. In number l) (map-map (λ p. p.number) (entry reg) (own_entries reg person)) m) in

@@ -54,7 +54,7 @@ names_apart owners a b i j apart below l at_a at_b same =
     (get_or-map (λ o. o.name) owners i a a.name (omega arith) ∙ (ap (λ o. o.name) at_a ∙ (same ∙ (ap (λ o. o.name) (sym at_b) ∙ sym (get_or-map (λ o. o.name) owners j b a.name l)))))
 
 -- a person is known by its name
-same_name : (s : Setting) (a b : Owner) → IsSetting s → Contains s.owners a → Contains s.owners b → a.name ≡ b.name → a ≡ b
+pub same_name : (s : Setting) (a b : Owner) → IsSetting s → Contains s.owners a → Contains s.owners b → a.name ≡ b.name → a ≡ b
 same_name s a b h (i, il, at_a) (j, jl, at_b) same =
     elim (cases_order i j) [
       | inl e ↦ same_Some a b (ap Some (sym at_a) ∙ (sym (slice_get-get_or s.owners i a il) ∙ (ap (slice_get s.owners) e ∙ (slice_get-get_or s.owners j b jl ∙ ap Some at_b))))

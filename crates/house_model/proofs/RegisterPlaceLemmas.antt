@@ -61,13 +61,13 @@ before reg e f = nat_lt (person_number reg e.1.1) (person_number reg f.1.1) || (
 abbrev Precedes : Register → Numbered → Numbered → Type 0
 Precedes reg e f = (before reg e f ≡ true) × (before reg f e ≡ false)
 
-test_by_person : (m n i j : ℕ) → m < n → ((nat_lt m n || (m == n && nat_lt i j)) ≡ true) × ((nat_lt n m || (n == m && nat_lt j i)) ≡ false)
+pub test_by_person : (m n i j : ℕ) → m < n → ((nat_lt m n || (m == n && nat_lt i j)) ≡ true) × ((nat_lt n m || (n == m && nat_lt j i)) ≡ false)
 test_by_person m n i j l = (grind (arith, nat_tests), grind (arith, nat_tests))
 
-test_by_number : (m i j : ℕ) → i < j → ((nat_lt m m || (m == m && nat_lt i j)) ≡ true) × ((nat_lt m m || (m == m && nat_lt j i)) ≡ false)
+pub test_by_number : (m i j : ℕ) → i < j → ((nat_lt m m || (m == m && nat_lt i j)) ≡ true) × ((nat_lt m m || (m == m && nat_lt j i)) ≡ false)
 test_by_number m i j l = (grind (arith, nat_tests), grind (arith, nat_tests))
 
-test_itself : (m i : ℕ) → (nat_lt m m || (m == m && nat_lt i i)) ≡ false
+pub test_itself : (m i : ℕ) → (nat_lt m m || (m == m && nat_lt i i)) ≡ false
 test_itself m i = grind (arith, nat_tests)
 
 precedes_by_person : (reg : Register) (e f : Numbered) → person_number reg e.1.1 < person_number reg f.1.1 → Precedes reg e f
@@ -97,7 +97,7 @@ count_none p [] h = refl
 count_none p (x ∷ xs) h =
     omega (arith, sum_by-cons (λ y. cond (p y) 1 0) x xs, cond-false {A = ℕ} (p x) 1 0 (h x (inl refl)), count_none p xs (λ y m. h y (inr m)))
 
-index_in_order : {X : Type 0} (test : X → X → Bool) (xs : List X) (x : X) → ((y : X) → test y y ≡ false)
+pub index_in_order : {X : Type 0} (test : X → X → Bool) (xs : List X) (x : X) → ((y : X) → test y y ≡ false)
     → InOrder (λ a b. (test a b ≡ true) × (test b a ≡ false)) xs → In x xs → slice_get xs (sum_by (λ y. cond (test y x) 1 0) xs) ≡ Some x
 index_in_order test [] x own o m = absurd m
 index_in_order test (z ∷ xs) x own o m = elim m [
@@ -117,11 +117,11 @@ count_below-step : (p : ℕ → Bool) (n : ℕ) → count_below p (suc n) ≡ co
 unfolding count_below
 count_below-step p n = refl
 
-count_below-start : (p : ℕ → Bool) → count_below p 0 ≡ 0
+pub count_below-start : (p : ℕ → Bool) → count_below p 0 ≡ 0
 unfolding count_below
 count_below-start p = refl
 
-count_by-enumerate_from : {X : Type 0} (p : ℕ → Bool) (n : ℕ) (xs : List X) → count_below p n + sum_by (λ e. cond (p e.0) 1 0) (enumerate_from n xs) ≡ count_below p (n + length xs)
+pub count_by-enumerate_from : {X : Type 0} (p : ℕ → Bool) (n : ℕ) (xs : List X) → count_below p n + sum_by (λ e. cond (p e.0) 1 0) (enumerate_from n xs) ≡ count_below p (n + length xs)
 count_by-enumerate_from p n [] = omega (arith, ap (count_below p) (let e : n + 0 ≡ n = omega arith in e))
 count_by-enumerate_from p n (x ∷ xs) =
     omega (
@@ -133,7 +133,7 @@ count_by-enumerate_from p n (x ∷ xs) =
       ap (count_below p) (let e : n + 1 + length xs ≡ n + suc (length xs) = omega arith in e),
     )
 
-sum_by-agree : {X : Type 0} (f g : X → ℕ) (xs : List X) → ((x : X) → In x xs → f x ≡ g x) → sum_by f xs ≡ sum_by g xs
+pub sum_by-agree : {X : Type 0} (f g : X → ℕ) (xs : List X) → ((x : X) → In x xs → f x ≡ g x) → sum_by f xs ≡ sum_by g xs
 sum_by-agree f g [] h = refl
 sum_by-agree f g (x ∷ xs) h =
     omega (arith, sum_by-cons f x xs, sum_by-cons g x xs, h x (inl refl), sum_by-agree f g xs (λ y m. h y (inr m)))
@@ -151,7 +151,7 @@ applicant_at reg e m =
     let r = enumerate_from-at 0 reg.applicants e m in
     ap (slice_get reg.applicants) (let same : e.0 ≡ r.0 = omega (arith, r.1) in same) ∙ r.2
 
-person_of-at : (reg : Register) (e : Numbered) → In e (numbered reg) → person_of reg e.0 ≡ e.1.1
+pub person_of-at : (reg : Register) (e : Numbered) → In e (numbered reg) → person_of reg e.0 ≡ e.1.1
 unfolding person_of
 person_of-at reg e m = ap (λ o. option_map_or (λ a. a.1) o []) (applicant_at reg e m)
 

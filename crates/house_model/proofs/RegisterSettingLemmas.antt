@@ -51,7 +51,7 @@ In-owners_from reg first (p ∷ ps) owner m =
       | inr there ↦ let r = In-owners_from reg (first + own_count reg p) ps owner there in (inr r.0, r.1)
     ]
 
-in_turn : (reg : Register) (first : ℕ) (ps : List Text) (n : ℕ) → first + length (flat_map (own_people reg) ps) ≡ n → StandInTurn first (owners_from reg first ps) n
+pub in_turn : (reg : Register) (first : ℕ) (ps : List Text) (n : ℕ) → first + length (flat_map (own_people reg) ps) ≡ n → StandInTurn first (owners_from reg first ps) n
 in_turn reg first [] n e = let z : first ≡ first + 0 = omega arith in z ∙ e
 in_turn reg first (p ∷ ps) n e = (
   refl,
@@ -92,7 +92,7 @@ own_place {Y} f d reg first (p ∷ ps) front owner place whole m owned =
     ]
 
 -- all of one person's people have its cluster
-own_cluster : (reg : Register) (person : Text) (k : ℕ) → k < length (own_people reg person) → get_or (map (λ p. p.cluster) (own_people reg person)) k 0 ≡ cluster_of reg person
+pub own_cluster : (reg : Register) (person : Text) (k : ℕ) → k < length (own_people reg person) → get_or (map (λ p. p.cluster) (own_people reg person)) k 0 ≡ cluster_of reg person
 unfolding own_people
 own_cluster reg person k l =
     let listed = map-map (λ p. p.cluster) (entry reg) (own_entries reg person) in
@@ -101,7 +101,7 @@ own_cluster reg person k l =
     r.2 ∙ ap (cluster_of reg) (In-group person_in (numbered reg) person r.0 r.1).1
 
 -- one person's people stand by rising numbers
-own_rising : (reg : Register) (person : Text) → InOrder (λ a b. a < b) (map (λ p. p.number) (own_people reg person))
+pub own_rising : (reg : Register) (person : Text) → InOrder (λ a b. a < b) (map (λ p. p.number) (own_people reg person))
 unfolding own_people
 own_rising reg person =
     subst (λ l. InOrder (λ a b. a < b) l) (sym (map-map (λ p. p.number) (entry reg) (own_entries reg person)))

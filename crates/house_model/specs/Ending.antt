@@ -8,20 +8,23 @@ use Rattle.house_model.specs.declared.verb.Verb.TheVariants as verb
 use Rattle.house_model.specs.Text.{Text, Lines}
 use Rattle.house_model.specs.Said.{has, phase_after}
 
--- How a list of lines ends, for a rule that says for which reason, if any, a line is refused after the lines
--- before it.
-abbrev pub Rule : Type 0
-Rule = Lines → Text → Option Reason
+-- Why a line ends a run: it is refused, or an assignment is to be computed and no valid one exists.
+pub data Halt : Type 0 where
+  Refused : Reason → Halt
+  Short : Halt
 
--- the number, counted from 1, and the reason of the first line that is refused, where these lines come after
--- those before
-abbrev pub stop_after : Rule → Lines → Lines → Option (ℕ × Reason)
+-- How a list of lines ends, for a rule that says why, if at all, a line ends the run after the lines before it.
+abbrev pub Rule : Type 0
+Rule = Lines → Text → Option Halt
+
+-- the first line that ends the run, by its number, counted from 1, where these lines come after those before
+abbrev pub stop_after : Rule → Lines → Lines → Option (ℕ × Halt)
 stop_after rule before [] = None
 stop_after rule before (line ∷ lines) =
-    option_map_or (λ r. Some (length before + 1, r)) (rule before line) (stop_after rule (before ++ line ∷ []) lines)
+    option_map_or (λ why. Some (length before + 1, why)) (rule before line) (stop_after rule (before ++ line ∷ []) lines)
 
 -- the stop of a list of lines
-unfoldable pub stop_of : Rule → Lines → Option (ℕ × Reason)
+unfoldable pub stop_of : Rule → Lines → Option (ℕ × Halt)
 stop_of rule lines = stop_after rule [] lines
 
 -- the lines before the stop, or all where there is none
@@ -33,10 +36,18 @@ in_force_after rule before (line ∷ lines) =
 unfoldable pub in_force : Rule → Lines → Lines
 in_force rule lines = in_force_after rule [] lines
 
--- how a list of lines ends
+-- How a list of lines ends: with its draw, at a line that is refused, at an assignment that cannot be, or at one that
+-- settles what was asked for.
 pub data Ended : Type 0 where
   Done : Ended
   Refused : ℕ → Reason → Ended
+  Short : Ended
+  Settled : Ended
+
+-- the end at a stop
+abbrev pub halted : ℕ → Halt → Ended
+halted number (Halt.Refused reason) = Ended.Refused number reason
+halted number Halt.Short = Ended.Short
 
 -- whether the lottery was drawn
 abbrev pub is_drawn : Phase → Bool
@@ -51,4 +62,9 @@ last_ended lines =
     else Ended.Done
 
 unfoldable pub ended : Rule → Lines → Ended
-ended rule lines = option_map_or (λ s. Ended.Refused s.0 s.1) (stop_of rule lines) (last_ended lines)
+ended rule lines = option_map_or (λ s. halted s.0 s.1) (stop_of rule lines) (last_ended lines)
+
+-- an end, but for the number of its line
+abbrev pub unnumbered : Ended → Ended
+unnumbered (Ended.Refused line reason) = Ended.Refused 0 reason
+unnumbered end = end

@@ -46,3 +46,37 @@ four_set_aside = codes "call 2 2 1\napplicant a\napplicant b\napplicant c\nappli
 -- an opening in which a has two applicants, and b, who is in no cluster yet, has one
 abbrev pub opening : List ℕ
 opening = codes "call 1 3 1\napplicant a1 a\napplicant a2 a\napplicant b\nplace a 1\npair a b\n"
+
+-- calls up to their assignments: of one applicant, who has nobody to review; of two, who review each other, without
+-- pairs, with one of the two pairs and with both
+abbrev pub one_assigned : List ℕ
+one_assigned = codes "call 1 2 1\napplicant a\nplace a 1\nassign\n"
+
+abbrev pub two_assigned : List ℕ
+two_assigned = codes "call 1 2 1\napplicant a\napplicant b\nplace a 1\nplace b 2\nassign\n"
+
+abbrev pub two_with_one_pair : List ℕ
+two_with_one_pair = codes "call 1 2 1\napplicant a\napplicant b\nplace a 1\nplace b 2\npair a b\nassign\n"
+
+abbrev pub two_with_both_pairs : List ℕ
+two_with_both_pairs = codes "call 1 2 1\napplicant a\napplicant b\nplace a 1\nplace b 2\npair a b\npair b a\nassign\n"
+
+-- openings of one applicant: with its place, with a seed for the clusters, and with a seal; a seal's line, as it is and
+-- with capitals; and a closed call with a seal
+abbrev pub placed : List ℕ
+placed = codes "call 1 2 1\napplicant a\nplace a 1\n"
+
+abbrev pub partitioned : List ℕ
+partitioned = codes "call 1 2 1\napplicant a\npartition dice-4\n"
+
+abbrev pub seal : List ℕ
+seal = codes "seal 00000000000000000000000000000000000000000000000000000000000000ff"
+
+abbrev pub capital_seal : List ℕ
+capital_seal = codes "seal 00000000000000000000000000000000000000000000000000000000000000FF"
+
+abbrev pub sealed : List ℕ
+sealed = placed ++ seal ++ codes "\n"
+
+abbrev pub sealed_and_closed : List ℕ
+sealed_and_closed = sealed ++ codes "assign\nclose\n"

@@ -1,6 +1,7 @@
-use Rattle.std.specs.Prelude.{ℕ, ◌^◌, ◌-◌, Bool, true, false, Option, Some, None, List, [], ◌∷◌, length, drop, ◌==◌, ◌&&◌, ◌||◌, nat_le, nat_lt, not, if◌then◌else◌}
+use Rattle.std.specs.Prelude.{ℕ, ◌^◌, ◌-◌, Bool, true, false, Option, Some, None, is_some, List, [], ◌∷◌, length, drop, ◌==◌, ◌&&◌, ◌||◌, nat_le, nat_lt, not, if◌then◌else◌}
 use Rattle.std.specs.List.{list_all}
 use Rattle.std.specs.Option.{option_map_or}
+use Rattle.std.specs.Str.{bytes_eq}
 use Rattle.house_base.specs.Name.{is_name}
 use Rattle.house_base.specs.Number.{number_up_to}
 use Rattle.house_base.specs.Seed.{is_seed}
@@ -15,7 +16,8 @@ use Rattle.house_model.specs.Profile.{is_valid}
 use Rattle.house_model.specs.Text.{Text, Lines, words, word}
 use Rattle.house_model.specs.Verbs.{verb_in, commands, is_house, has_count, allows, is_hex64}
 use Rattle.house_model.specs.Register.{Register, names, persons, own_count, placed_names, among, pair_among, all_placed}
-use Rattle.house_model.specs.Said.{has, phase_after, clusters_of, applicant_in, register, denominator_of, setting, assigned}
+use Rattle.house_model.specs.Said.{has, phase_after, clusters_of, applicant_in, register, denominator_of, setting, seal_of, has_pairs, run_pairs}
+use Rattle.house_model.specs.Seeds.{seed_seal}
 
 -- Why a line of the house may not come after the lines before it.
 
@@ -84,8 +86,16 @@ is_unknown reg v line = false
 
 -- as many applicants as there may be, or the person has as many as it may
 abbrev pub is_too_many : Register → Verb → Text → Bool
-is_too_many reg verb.Applicant line = nat_le MOST_APPLICANTS (length reg.applicants) || nat_le MOST_OWN (own_count reg (applicant_in line).1)
+is_too_many reg verb.Applicant line =
+    nat_le MOST_APPLICANTS (length reg.applicants) || nat_le MOST_OWN (own_count reg (applicant_in line).1)
 is_too_many reg v line = false
+
+-- a draw that does not keep to the seal: one by number, or by a seed of another seal
+abbrev pub breaks_seal : Lines → Verb → Text → Bool
+breaks_seal before verb.Draw line = is_some (seal_of before)
+breaks_seal before verb.Lottery line =
+    option_map_or (λ seal. not (bytes_eq (seed_seal (word line 1)) seal)) (seal_of before) false
+breaks_seal before v line = false
 
 -- an assignment among nobody
 abbrev pub is_few : Register → Verb → Bool
@@ -100,10 +110,13 @@ is_unplaced before v = false
 -- whether a goal looks at the pairs
 abbrev pub looks_at_pairs : Goal → Bool
 looks_at_pairs goal.Run = true
+looks_at_pairs goal.Pairs = true
+looks_at_pairs goal.Feasible = false
 
 -- a hand-made assignment that is not valid
 abbrev pub is_invalid : Goal → Lines → Verb → Bool
-is_invalid g before verb.Assign = looks_at_pairs g && nat_lt 0 (length (register before).pairs) && not (is_valid (setting before) (assigned g before))
+is_invalid g before verb.Assign =
+    looks_at_pairs g && has_pairs before && not (is_valid (setting before) (run_pairs before))
 is_invalid g before v = false
 
 -- the first of these reasons whose test holds
@@ -122,6 +135,7 @@ house_fault g before line = first_of_reasons (
     ∷ (reason.Known, is_known (register before) (verb_in line) line)
     ∷ (reason.Unknown, is_unknown (register before) (verb_in line) line)
     ∷ (reason.TooMany, is_too_many (register before) (verb_in line) line)
+    ∷ (reason.Seal, breaks_seal before (verb_in line) line)
     ∷ (reason.Few, is_few (register before) (verb_in line))
     ∷ (reason.Unplaced, is_unplaced before (verb_in line))
     ∷ (reason.Invalid, is_invalid g before (verb_in line))

@@ -33,7 +33,8 @@ RisesInDistance f r = AllPairs (λ p q. distance (size f.setting) r p < distance
 
 -- a person gives away a dollar, whole
 abbrev pub DollarIsGiven : Profile → ℕ → Type 0
-DollarIsGiven f r = r < size f.setting → IsTrue (is_some (owner_from f.setting r)) → sum_below (cents f r) (size f.setting) ≡ DOLLAR
+DollarIsGiven f r = r < size f.setting → IsTrue (is_some (owner_from f.setting r))
+    → sum_below (cents f r) (size f.setting) ≡ DOLLAR
 
 -- the clusters get a dollar for each person
 abbrev pub DollarsAreShared : Profile → Type 0
@@ -49,7 +50,8 @@ SeatsAreGiven f v = v < denominator f.setting → sum_below (λ i. seats f (i + 
 
 -- at a draw each cluster gets its quota, rounded
 abbrev pub QuotasAreRounded : Profile → ℕ → Type 0
-QuotasAreRounded f v = v < denominator f.setting → (i : ℕ) → i < f.setting.clusters → IsRounded (seats f (i + 1) v) (quota f (i + 1)) (denominator f.setting)
+QuotasAreRounded f v = v < denominator f.setting → (i : ℕ) → i < f.setting.clusters
+    → IsRounded (seats f (i + 1) v) (quota f (i + 1)) (denominator f.setting)
 
 -- a rank counts from 1 to the members of the cluster
 abbrev pub RankIsInCluster : Profile → ℕ → Type 0
@@ -67,15 +69,18 @@ SeatsAreFilled f j v = count_below (λ p. cluster_at f.setting p == j && selecte
 
 -- those who are selected and the seats that stay empty are all the seats
 abbrev pub SeatsAreCounted : Profile → ℕ → Type 0
-SeatsAreCounted f v = v < denominator f.setting → count_below (λ p. selected f p v) (size f.setting) + empty_seats f v ≡ f.setting.seats
+SeatsAreCounted f v = v < denominator f.setting
+    → count_below (λ p. selected f p v) (size f.setting) + empty_seats f v ≡ f.setting.seats
 
 -- over all draws a cluster gets its quota of seats
 abbrev pub QuotaIsTheMean : Profile → ℕ → Type 0
-QuotaIsTheMean f i = i < f.setting.clusters → sum_below (λ v. seats f (i + 1) v) (denominator f.setting) ≡ quota f (i + 1)
+QuotaIsTheMean f i = i < f.setting.clusters
+    → sum_below (λ v. seats f (i + 1) v) (denominator f.setting) ≡ quota f (i + 1)
 
 -- the chance of an applicant is the part of its cluster's quota that those of better rank leave, up to 1
 abbrev pub ChanceIsExact : Profile → ℕ → Type 0
-ChanceIsExact f p = p < size f.setting → chance f p ≡ min (denominator f.setting) (quota f (cluster_at f.setting p) - (rank f p - 1) * denominator f.setting)
+ChanceIsExact f p = p < size f.setting
+    → chance f p ≡ min (denominator f.setting) (quota f (cluster_at f.setting p) - (rank f p - 1) * denominator f.setting)
 
 -- the profile in which one reviewer gave other points
 abbrev pub with_points : Profile → ℕ → (ℕ → ℕ) → Profile
@@ -97,7 +102,8 @@ abbrev pub KeepsRank : Profile → ℕ → (ℕ → ℕ) → ℕ → Type 0
 KeepsRank f reviewer points p = IsInClusterOf f reviewer p → rank (with_points f reviewer points) p ≡ rank f p
 
 abbrev pub KeepsQuota : Profile → ℕ → (ℕ → ℕ) → Type 0
-KeepsQuota f reviewer points = quota (with_points f reviewer points) (cluster_at f.setting reviewer) ≡ quota f (cluster_at f.setting reviewer)
+KeepsQuota f reviewer points =
+    quota (with_points f reviewer points) (cluster_at f.setting reviewer) ≡ quota f (cluster_at f.setting reviewer)
 
 abbrev pub KeepsChance : Profile → ℕ → (ℕ → ℕ) → ℕ → Type 0
 KeepsChance f reviewer points p = IsInClusterOf f reviewer p → chance (with_points f reviewer points) p ≡ chance f p

@@ -2,6 +2,7 @@ pub mod Counting
 pub mod Split
 pub mod Profile
 pub mod Shortage
+pub mod FirstAssignment
 pub mod Lottery
 pub mod Marks
 pub mod Naming
@@ -10,11 +11,14 @@ pub mod Text
 pub mod Verbs
 pub mod Commands
 pub mod Register
+pub mod Seeds
 pub mod Said
 pub mod Faults
 pub mod Reviews
 pub mod Ending
-pub mod Transitional
+pub mod Runs
+pub mod Texts
+pub mod ReadBack
 pub mod Heard
 pub mod Due
 pub mod Examples

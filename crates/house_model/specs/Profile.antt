@@ -31,8 +31,11 @@ unfoldable pub denominator : Setting → ℕ
 denominator s = length s.owners * DOLLAR
 
 -- the proposals of a reviewer, in the order of rising distance
+abbrev pub proposals_of : Setting → Pairs → ℕ → List ℕ
+proposals_of s pairs r = filter (pairs r) (map (λ d. (r + 1 + d) % size s) (numbers_below (size s)))
+
 unfoldable pub row : Profile → ℕ → List ℕ
-row f r = filter (f.pairs r) (map (λ d. (r + 1 + d) % size f.setting) (numbers_below (size f.setting)))
+row f r = proposals_of f.setting f.pairs r
 
 -- the points that a reviewer gave them
 unfoldable pub row_points : Profile → ℕ → List ℕ

@@ -70,7 +70,8 @@ person_of reg i = option_map_or (λ a. a.1) (slice_get reg.applicants i) []
 -- a smaller register number.
 unfoldable pub place : Register → ℕ → ℕ
 place reg i = count_below (λ j. nat_lt (person_number reg (person_of reg j)) (person_number reg (person_of reg i))
-    || (person_number reg (person_of reg j) == person_number reg (person_of reg i) && nat_lt j i)) (length reg.applicants)
+    || (person_number reg (person_of reg j) == person_number reg (person_of reg i)
+    && nat_lt j i)) (length reg.applicants)
 
 -- an applicant with its person's cluster and its register number
 abbrev pub entry : Register → ℕ × (Text × Text) → Person

@@ -48,7 +48,11 @@ kind_tests g before line =
     (kind.Form, not (length (words line) == 4))
     ∷ (kind.Early, is_before_assignment (phase_after before))
     ∷ (kind.Late, is_after_close (phase_after before))
-    ∷ (kind.Unknown, not (among (persons (register before)) (word line 1) && among (names (register before)) (word line 2)))
+    ∷ (
+      kind.Unknown,
+      not (among (persons (register before)) (word line 1)
+          && among (names (register before)) (word line 2)),
+    )
     ∷ (kind.Unassigned, not (is_assigned (setting before) (assigned g before) (word line 1) (word line 2)))
     ∷ (kind.Range, not (is_within 0 MOST_POINTS (word line 3)))
     ∷ []
@@ -65,7 +69,8 @@ kind_of g before line = first_of_kinds (kind_tests g before line)
 abbrev pub kept_after : Lines → Lines → Lines
 kept_after before [] = []
 kept_after before (line ∷ lines) =
-    (if is_review line && is_none (kind_of goal.Run before line) then line ∷ [] else []) ++ kept_after (before ++ line ∷ []) lines
+    (if is_review line && is_none (kind_of goal.Run before line) then line ∷ []
+    else []) ++ kept_after (before ++ line ∷ []) lines
 
 -- the counts of review lines set aside, where these lines come after those before
 abbrev pub asides_after : Goal → Lines → Asides → Lines → Asides
@@ -85,7 +90,8 @@ asides_of g lines = asides_after g [] no_asides lines
 unfoldable pub points_of : Lines → ℕ → ℕ → ℕ
 points_of lines r p =
     let s : Setting = setting lines in
-    let on_them : Text → Bool = λ line. bytes_eq (word line 1) (reviewer_at s r) && bytes_eq (word line 2) (name_at s p) in
+    let on_them : Text → Bool =
+    λ line. bytes_eq (word line 1) (reviewer_at s r) && bytes_eq (word line 2) (name_at s p) in
     option_map_or (λ line. number (word line 3)) (slice_get (reverse (filter on_them (kept_after [] lines))) 0) 0
 
 -- the profile that the lines give

@@ -1,18 +1,22 @@
-use Rattle.std.specs.Prelude.{ℕ, ◌*◌, ◌^◌, ◌-◌, Bool, length, map, filter, find, ◌==◌, ◌||◌, not, if◌then◌else◌}
+use Rattle.std.specs.Prelude.{ℕ, ◌*◌, ◌^◌, ◌-◌, Bool, Option, Result, Ok, Err, List, [], length, map, filter, find, ◌==◌, ◌||◌, not, if◌then◌else◌}
 use Rattle.std.specs.List.{list_any}
-use Rattle.std.specs.Option.{option_map_or}
+use Rattle.std.specs.Option.{option_map, option_map_or}
+use Rattle.hex.specs.Hex.{decode_of}
 use Rattle.house_base.specs.Number.{number_up_to}
 use Rattle.house_base.specs.Setting.{Setting}
 use Rattle.house_base.specs.declared.limits.TheConstants.{DOLLAR}
 use Rattle.house_base.specs.declared.phase.Phase.{Phase}
 use Rattle.house_base.specs.declared.phase.Phase.TheVariants as phase
 use Rattle.house_model.specs.declared.goal.Goal.{Goal}
+use Rattle.house_model.specs.declared.goal.Goal.TheVariants as goal
 use Rattle.house_model.specs.declared.verb.Verb.{Verb}
 use Rattle.house_model.specs.declared.verb.Verb.TheVariants as verb
+use Rattle.house_model.specs.FirstAssignment.{first_assignment, no_pairs}
 use Rattle.house_model.specs.Profile.{Pairs}
 use Rattle.house_model.specs.Text.{Text, Lines, words, word}
 use Rattle.house_model.specs.Verbs.{commands}
-use Rattle.house_model.specs.Register.{Register, persons, registered_setting, name_pair}
+use Rattle.house_model.specs.Register.{Register, persons, name_pair}
+use Rattle.house_model.specs.Seeds.{seed_draw, seeded_setting}
 
 -- What the lines of a command file say. Each part is read off the lines with one command.
 
@@ -75,14 +79,42 @@ register lines = record {
 unfoldable pub denominator_of : Register → ℕ
 denominator_of reg = length (persons reg) * DOLLAR
 
--- the draw
+-- the bytes that a word of hexadecimal digits spells; none where it spells none
+abbrev pub bytes_or_none : {E : Type 0} → Result (List ℕ) E → List ℕ
+bytes_or_none (Ok bytes) = bytes
+bytes_or_none (Err why) = []
+
+unfoldable pub spelled : Text → List ℕ
+spelled w = bytes_or_none (decode_of w)
+
+-- the seed from which the clusters are drawn, where they are
+unfoldable pub seed_of : Lines → Option Text
+seed_of lines = option_map (λ line. word line 1) (find (commands verb.Partition) lines)
+
+-- the digest to which the draw has to keep, where there is one
+unfoldable pub seal_of : Lines → Option (List ℕ)
+seal_of lines = option_map (λ line. spelled (word line 1)) (find (commands verb.Seal) lines)
+
+-- the draw: the number of the draw line, or what the seed of the lottery line draws
 unfoldable pub draw_of : Lines → ℕ
-draw_of lines = option_map_or (λ line. number (word line 1)) (find (commands verb.Draw) lines) 0
+draw_of lines = option_map_or (λ line. number (word line 1)) (find (commands verb.Draw) lines)
+    (option_map_or (λ line. seed_draw (word line 1) (denominator_of (register lines))) (find (commands verb.Lottery) lines) 0)
 
 -- the setting that the lines give
 unfoldable pub setting : Lines → Setting
-setting lines = registered_setting (seats_of lines) (clusters_of lines) (reviews_of lines) (register lines)
+setting lines = seeded_setting (seed_of lines) (seats_of lines) (clusters_of lines) (reviews_of lines) (register lines)
 
--- the assignment that the lines give for a goal, by places: the pairs that they name
-unfoldable pub assigned : Goal → Lines → Pairs
-assigned g lines = name_pair (register lines).pairs (setting lines)
+-- whether pairs were made by hand
+unfoldable pub has_pairs : Lines → Bool
+has_pairs lines = not (length (register lines).pairs == 0)
+
+-- the assignment of a run: the pairs that the lines name, by places, and where they name none the first assignment
+unfoldable pub run_pairs : Lines → Pairs
+run_pairs lines = if has_pairs lines then name_pair (register lines).pairs (setting lines)
+    else first_assignment (setting lines)
+
+-- the assignment that the lines give for a goal: none where only its existence is asked for
+abbrev pub assigned : Goal → Lines → Pairs
+assigned goal.Run lines = run_pairs lines
+assigned goal.Pairs lines = run_pairs lines
+assigned goal.Feasible lines = no_pairs

@@ -1,6 +1,6 @@
 //! Worked examples of the first fault of a line after the lines before it.
 
-ghost use Rattle.std.specs.Prelude.{◌≡◌, codes, Some, None};
+ghost use Rattle.std.specs.Prelude.{◌≡◌, ◌++◌, codes, Some, None};
 ghost use Rattle.house_base.specs.declared.answer.Reason.TheVariants as reason;
 ghost use Rattle.house_model.specs.declared.goal.Goal.TheVariants as goal;
 ghost use Rattle.house_model.specs.Examples as call;
@@ -46,4 +46,21 @@ pub fn faults_of_calls_and_assignments()
     ensures valid { fault goal.Run (lines (codes "call 1 2 1\napplicant a\napplicant b\nplace a 1\nplace b 2\npair a b\npair b a\n")) (codes "assign") ≡ None }
     ensures computed { fault goal.Run (lines (codes "call 1 2 1\napplicant a\nplace a 1\n")) (codes "assign") ≡ None }
     ensures one_too_many { fault goal.Run (lines (codes "call 1 2 1\napplicant a1 a\napplicant a2 a\napplicant a3 a\napplicant a4 a\napplicant a5 a\n")) (codes "applicant a6 a") ≡ Some reason.TooMany }
+{}
+
+/// Of seeds and seals: clusters are drawn or persons placed, once each, and a draw has to keep to the seal.
+pub fn faults_of_seeds_and_seals()
+    ensures partition_behind_place { fault goal.Run (lines call.placed) (codes "partition dice-4") ≡ Some reason.Order }
+    ensures place_behind_partition { fault goal.Run (lines call.partitioned) (codes "place a 1") ≡ Some reason.Order }
+    ensures second_partition { fault goal.Run (lines call.partitioned) (codes "partition dice-4") ≡ Some reason.Order }
+    ensures second_seal { fault goal.Run (lines call.sealed) call.seal ≡ Some reason.Order }
+    ensures short_seal { fault goal.Run (lines call.placed) (codes "seal ff") ≡ Some reason.Form }
+    ensures capital_seal { fault goal.Run (lines call.placed) call.capital_seal ≡ Some reason.Form }
+    ensures no_seed { fault goal.Run (lines (codes "call 1 2 1\n")) (codes "partition dice_4") ≡ Some reason.Name }
+    ensures early_lottery { fault goal.Run (lines call.sealed) (codes "lottery dice-4") ≡ Some reason.Order }
+    ensures draw_under_a_seal { fault goal.Run (lines call.sealed_and_closed) (codes "draw 0") ≡ Some reason.Seal }
+    ensures lottery_without_a_seal { fault goal.Run (lines (call.placed ++ codes "assign\nclose\n"))
+        (codes "lottery dice-4") ≡ None }
+    ensures taken_seed { fault goal.Run (lines (codes "call 1 2 1\n")) (codes "partition Dice-4") ≡ None }
+    ensures placed_by_the_seed { fault goal.Run (lines call.partitioned) (codes "assign") ≡ None }
 {}

@@ -5,4 +5,8 @@
 pub enum Goal {
     /// The report of the selection.
     Run,
+    /// The pairs of the assignment.
+    Pairs,
+    /// Whether there is a valid assignment.
+    Feasible,
 }

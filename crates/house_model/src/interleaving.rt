@@ -8,7 +8,7 @@ ghost use Rattle.house_model.specs.Interleaving.{AreInterleaved};
 ghost use Rattle.house_model.specs.Reviews.{asides_of, profile};
 ghost use Rattle.house_model.specs.Said.{draw_of};
 ghost use Rattle.house_model.specs.Text.{Lines};
-ghost use Rattle.house_model.specs.Transitional.{end_of, report_of};
+ghost use Rattle.house_model.specs.Runs.{end_of, report_of};
 
 /// A list of lines that is done is done in each other order of arrival, with the same profile, the same counts of
 /// review lines set aside, the same draw, and so the same report.

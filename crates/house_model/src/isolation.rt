@@ -4,21 +4,23 @@
 ghost use Rattle.std.specs.Prelude.{◌≡◌, ◌≢◌, ℕ, ◌↔◌, [], ◌∷◌, codes};
 ghost use Rattle.house_base.specs.Setting.{cluster_at};
 ghost use Rattle.house_model.specs.declared.goal.Goal.{Goal};
-ghost use Rattle.house_model.specs.Ending.{Rule, Ended, ended};
+ghost use Rattle.house_model.specs.Ending.{Rule, Ended, ended, unnumbered};
 ghost use Rattle.house_model.specs.Isolation.{without, GiveAssignment, IsApplicantOf, IgnoresReviews};
 ghost use Rattle.house_model.specs.Lottery.{chance};
 ghost use Rattle.house_model.specs.Profile.{score, rank, quota};
 ghost use Rattle.house_model.specs.Register.{reviewer_at};
 ghost use Rattle.house_model.specs.Reviews.{profile, points_of};
-ghost use Rattle.house_model.specs.Said.{register, setting, assigned, phase_after, draw_of};
+ghost use Rattle.house_model.specs.Said.{register, setting, assigned, seed_of, seal_of, phase_after, draw_of};
 ghost use Rattle.house_model.specs.Text.{Text, Lines};
-ghost use Rattle.house_model.specs.Transitional.{refusal, end_of};
+ghost use Rattle.house_model.specs.Runs.{halt, end_of, taken};
 
-/// Without the review lines of one person the lines give the same call, assignment, phase and draw.
+/// Without the review lines of one person the lines give the same call, assignment, seed, seal, phase and draw.
 pub fn reviews_are_not_on_record()
     ensures register { (name : Text) (lines : Lines) → register (without name lines) ≡ register lines }
     ensures setting { (name : Text) (lines : Lines) → setting (without name lines) ≡ setting lines }
     ensures assigned { (g : Goal) (name : Text) (lines : Lines) → assigned g (without name lines) ≡ assigned g lines }
+    ensures seed { (name : Text) (lines : Lines) → seed_of (without name lines) ≡ seed_of lines }
+    ensures seal { (name : Text) (lines : Lines) → seal_of (without name lines) ≡ seal_of lines }
     ensures phase { (name : Text) (lines : Lines) → phase_after (without name lines) ≡ phase_after lines }
     ensures draw { (name : Text) (lines : Lines) → draw_of (without name lines) ≡ draw_of lines }
 {}
@@ -48,13 +50,17 @@ pub fn own_reviews_change_no_own_chance()
         → without name lines ≡ without name others → chance (profile lines) p ≡ chance (profile others) p }
 {}
 
-/// A list of lines is done exactly where it is done without the review lines of one person.
+/// Without the review lines of one person a run ends alike, at another line at most, and the same other lines are taken.
 pub fn reviews_end_no_run()
     ensures any_rule { (rule : Rule) (name : Text) (lines : Lines) → IgnoresReviews rule
-        → (ended rule (without name lines) ≡ Ended.Done) ↔ (ended rule lines ≡ Ended.Done) }
-    ensures refusal { (g : Goal) → IgnoresReviews (refusal g) }
+        → unnumbered (ended rule (without name lines)) ≡ unnumbered (ended rule lines) }
+    ensures halt { (g : Goal) → IgnoresReviews (halt g) }
     ensures run { (g : Goal) (name : Text) (lines : Lines)
+        → unnumbered (end_of g (without name lines)) ≡ unnumbered (end_of g lines) }
+    ensures done { (g : Goal) (name : Text) (lines : Lines)
         → (end_of g (without name lines) ≡ Ended.Done) ↔ (end_of g lines ≡ Ended.Done) }
+    ensures taken { (g : Goal) (name : Text) (lines : Lines)
+        → taken g (without name lines) ≡ without name (taken g lines) }
 {}
 
 /// Of these lines, the review lines of a are taken out, and no other.

@@ -5,6 +5,8 @@
 pub mod command;
 pub mod examples;
 pub mod faults;
+pub mod first_laws;
+pub mod form;
 pub mod goal;
 pub mod headline;
 pub mod interleaving;
@@ -13,11 +15,15 @@ pub mod laws;
 pub mod limits;
 pub mod mark_laws;
 pub mod outcome;
+pub mod read_back;
 pub mod register_laws;
+pub mod runs;
+pub mod seed_laws;
 pub mod verb;
 pub mod worked;
 
 pub use command::Command;
+pub use form::Form;
 pub use goal::Goal;
 pub use outcome::{ApplicantRow, ClusterRow};
 pub use verb::Verb;

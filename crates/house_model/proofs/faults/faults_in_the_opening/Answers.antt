@@ -13,85 +13,85 @@ use Rattle.house_model.specs.Report.{line_of, over, name_at, person_at, stand_al
 use Rattle.house_model.specs.Text.{words, word, without_return, lines, is_blank}
 use Rattle.house_model.specs.Verbs.{verb_of, verb_in, is_review, is_house, is_hex64}
 use Rattle.house_model.specs.Register.{persons, own_count, cluster_of, among, pair_among, all_placed, own_people, people, owners, square_of, reviewer_at, name_pair, open_setting, registered_setting}
-use Rattle.house_model.specs.Said.{has, those, number, phase_after, call_number, register, denominator_of, draw_of, setting, assigned}
+use Rattle.house_model.specs.Said.{has, those, number, phase_after, call_number, register, denominator_of, seed_of, seal_of, draw_of, setting, has_pairs, run_pairs}
 use Rattle.house_model.specs.Reviews.{reviewer_place, proposal_place, is_assigned, kind_tests, kind_of, asides_of, points_of, profile}
 use Rattle.house_model.specs.Faults.{is_within, is_below, lacks_call, out_of_order, ill_formed, house_fault, fault}
-use Rattle.house_model.specs.Ending.{stop_of, last_ended, ended}
-use Rattle.house_model.specs.Transitional.{report_of, refusal, end_of}
+use Rattle.house_model.specs.Ending.{stop_of, last_ended}
+use Rattle.house_model.specs.Runs.{report_of, halt, end_of}
 use Rattle.house_model.proofs.faults.faults_in_the_opening.Goals as goal
 
 pub returns-clause-no_call : goal.returns-clause-no_call
-unfolding digits is_name number_up_to cell cluster_at number_at owner_from need may distance count_below sum_below all_below numbers_below weights base_at remainder_at left_over comes_before cents_at is_valid denominator row row_points cents score cluster_size cluster_cents quota cumulative_quota rank seats selected filled empty_seats line_of over name_at person_at stand_alone place_of_number call_words applicants_words aside_words draw_words cluster_words applicant_words empty_words report_head report_body words word verb_in without_return lines is_blank verb_of is_review is_house has those number phase_after call_number register persons own_count cluster_of all_placed denominator_of registered_setting draw_of own_people people owners square_of reviewer_at name_pair open_setting setting assigned reviewer_place proposal_place is_assigned kind_tests kind_of asides_of points_of profile among pair_among is_within report_of is_below lacks_call out_of_order ill_formed house_fault fault stop_of last_ended ended refusal end_of is_hex64 is_seed
+unfolding digits is_name number_up_to cell cluster_at number_at owner_from need may distance count_below sum_below all_below numbers_below weights base_at remainder_at left_over comes_before cents_at is_valid denominator row row_points cents score cluster_size cluster_cents quota cumulative_quota rank seats selected filled empty_seats line_of over name_at person_at stand_alone place_of_number call_words applicants_words aside_words draw_words cluster_words applicant_words empty_words report_head report_body words word verb_in without_return lines is_blank verb_of is_review is_house has those number phase_after call_number register persons own_count cluster_of all_placed denominator_of registered_setting draw_of own_people people owners square_of reviewer_at name_pair open_setting seed_of seal_of setting has_pairs run_pairs reviewer_place proposal_place is_assigned kind_tests kind_of asides_of points_of profile among pair_among is_within report_of is_below lacks_call out_of_order ill_formed house_fault fault stop_of last_ended halt end_of is_hex64 is_seed
 returns-clause-no_call c = refl
 
 pub returns-clause-again : goal.returns-clause-again
-unfolding digits is_name number_up_to cell cluster_at number_at owner_from need may distance count_below sum_below all_below numbers_below weights base_at remainder_at left_over comes_before cents_at is_valid denominator row row_points cents score cluster_size cluster_cents quota cumulative_quota rank seats selected filled empty_seats line_of over name_at person_at stand_alone place_of_number call_words applicants_words aside_words draw_words cluster_words applicant_words empty_words report_head report_body words word verb_in without_return lines is_blank verb_of is_review is_house has those number phase_after call_number register persons own_count cluster_of all_placed denominator_of registered_setting draw_of own_people people owners square_of reviewer_at name_pair open_setting setting assigned reviewer_place proposal_place is_assigned kind_tests kind_of asides_of points_of profile among pair_among is_within report_of is_below lacks_call out_of_order ill_formed house_fault fault stop_of last_ended ended refusal end_of is_hex64 is_seed
+unfolding digits is_name number_up_to cell cluster_at number_at owner_from need may distance count_below sum_below all_below numbers_below weights base_at remainder_at left_over comes_before cents_at is_valid denominator row row_points cents score cluster_size cluster_cents quota cumulative_quota rank seats selected filled empty_seats line_of over name_at person_at stand_alone place_of_number call_words applicants_words aside_words draw_words cluster_words applicant_words empty_words report_head report_body words word verb_in without_return lines is_blank verb_of is_review is_house has those number phase_after call_number register persons own_count cluster_of all_placed denominator_of registered_setting draw_of own_people people owners square_of reviewer_at name_pair open_setting seed_of seal_of setting has_pairs run_pairs reviewer_place proposal_place is_assigned kind_tests kind_of asides_of points_of profile among pair_among is_within report_of is_below lacks_call out_of_order ill_formed house_fault fault stop_of last_ended halt end_of is_hex64 is_seed
 returns-clause-again c = refl
 
 pub returns-clause-no_command : goal.returns-clause-no_command
-unfolding digits is_name number_up_to cell cluster_at number_at owner_from need may distance count_below sum_below all_below numbers_below weights base_at remainder_at left_over comes_before cents_at is_valid denominator row row_points cents score cluster_size cluster_cents quota cumulative_quota rank seats selected filled empty_seats line_of over name_at person_at stand_alone place_of_number call_words applicants_words aside_words draw_words cluster_words applicant_words empty_words report_head report_body words word verb_in without_return lines is_blank verb_of is_review is_house has those number phase_after call_number register persons own_count cluster_of all_placed denominator_of registered_setting draw_of own_people people owners square_of reviewer_at name_pair open_setting setting assigned reviewer_place proposal_place is_assigned kind_tests kind_of asides_of points_of profile among pair_among is_within report_of is_below lacks_call out_of_order ill_formed house_fault fault stop_of last_ended ended refusal end_of is_hex64 is_seed
+unfolding digits is_name number_up_to cell cluster_at number_at owner_from need may distance count_below sum_below all_below numbers_below weights base_at remainder_at left_over comes_before cents_at is_valid denominator row row_points cents score cluster_size cluster_cents quota cumulative_quota rank seats selected filled empty_seats line_of over name_at person_at stand_alone place_of_number call_words applicants_words aside_words draw_words cluster_words applicant_words empty_words report_head report_body words word verb_in without_return lines is_blank verb_of is_review is_house has those number phase_after call_number register persons own_count cluster_of all_placed denominator_of registered_setting draw_of own_people people owners square_of reviewer_at name_pair open_setting seed_of seal_of setting has_pairs run_pairs reviewer_place proposal_place is_assigned kind_tests kind_of asides_of points_of profile among pair_among is_within report_of is_below lacks_call out_of_order ill_formed house_fault fault stop_of last_ended halt end_of is_hex64 is_seed
 returns-clause-no_command c = refl
 
 pub returns-clause-few_words : goal.returns-clause-few_words
-unfolding digits is_name number_up_to cell cluster_at number_at owner_from need may distance count_below sum_below all_below numbers_below weights base_at remainder_at left_over comes_before cents_at is_valid denominator row row_points cents score cluster_size cluster_cents quota cumulative_quota rank seats selected filled empty_seats line_of over name_at person_at stand_alone place_of_number call_words applicants_words aside_words draw_words cluster_words applicant_words empty_words report_head report_body words word verb_in without_return lines is_blank verb_of is_review is_house has those number phase_after call_number register persons own_count cluster_of all_placed denominator_of registered_setting draw_of own_people people owners square_of reviewer_at name_pair open_setting setting assigned reviewer_place proposal_place is_assigned kind_tests kind_of asides_of points_of profile among pair_among is_within report_of is_below lacks_call out_of_order ill_formed house_fault fault stop_of last_ended ended refusal end_of is_hex64 is_seed
+unfolding digits is_name number_up_to cell cluster_at number_at owner_from need may distance count_below sum_below all_below numbers_below weights base_at remainder_at left_over comes_before cents_at is_valid denominator row row_points cents score cluster_size cluster_cents quota cumulative_quota rank seats selected filled empty_seats line_of over name_at person_at stand_alone place_of_number call_words applicants_words aside_words draw_words cluster_words applicant_words empty_words report_head report_body words word verb_in without_return lines is_blank verb_of is_review is_house has those number phase_after call_number register persons own_count cluster_of all_placed denominator_of registered_setting draw_of own_people people owners square_of reviewer_at name_pair open_setting seed_of seal_of setting has_pairs run_pairs reviewer_place proposal_place is_assigned kind_tests kind_of asides_of points_of profile among pair_among is_within report_of is_below lacks_call out_of_order ill_formed house_fault fault stop_of last_ended halt end_of is_hex64 is_seed
 returns-clause-few_words c = refl
 
 pub returns-clause-name : goal.returns-clause-name
-unfolding digits is_name number_up_to cell cluster_at number_at owner_from need may distance count_below sum_below all_below numbers_below weights base_at remainder_at left_over comes_before cents_at is_valid denominator row row_points cents score cluster_size cluster_cents quota cumulative_quota rank seats selected filled empty_seats line_of over name_at person_at stand_alone place_of_number call_words applicants_words aside_words draw_words cluster_words applicant_words empty_words report_head report_body words word verb_in without_return lines is_blank verb_of is_review is_house has those number phase_after call_number register persons own_count cluster_of all_placed denominator_of registered_setting draw_of own_people people owners square_of reviewer_at name_pair open_setting setting assigned reviewer_place proposal_place is_assigned kind_tests kind_of asides_of points_of profile among pair_among is_within report_of is_below lacks_call out_of_order ill_formed house_fault fault stop_of last_ended ended refusal end_of is_hex64 is_seed
+unfolding digits is_name number_up_to cell cluster_at number_at owner_from need may distance count_below sum_below all_below numbers_below weights base_at remainder_at left_over comes_before cents_at is_valid denominator row row_points cents score cluster_size cluster_cents quota cumulative_quota rank seats selected filled empty_seats line_of over name_at person_at stand_alone place_of_number call_words applicants_words aside_words draw_words cluster_words applicant_words empty_words report_head report_body words word verb_in without_return lines is_blank verb_of is_review is_house has those number phase_after call_number register persons own_count cluster_of all_placed denominator_of registered_setting draw_of own_people people owners square_of reviewer_at name_pair open_setting seed_of seal_of setting has_pairs run_pairs reviewer_place proposal_place is_assigned kind_tests kind_of asides_of points_of profile among pair_among is_within report_of is_below lacks_call out_of_order ill_formed house_fault fault stop_of last_ended halt end_of is_hex64 is_seed
 returns-clause-name c = refl
 
 pub returns-clause-range : goal.returns-clause-range
-unfolding digits is_name number_up_to cell cluster_at number_at owner_from need may distance count_below sum_below all_below numbers_below weights base_at remainder_at left_over comes_before cents_at is_valid denominator row row_points cents score cluster_size cluster_cents quota cumulative_quota rank seats selected filled empty_seats line_of over name_at person_at stand_alone place_of_number call_words applicants_words aside_words draw_words cluster_words applicant_words empty_words report_head report_body words word verb_in without_return lines is_blank verb_of is_review is_house has those number phase_after call_number register persons own_count cluster_of all_placed denominator_of registered_setting draw_of own_people people owners square_of reviewer_at name_pair open_setting setting assigned reviewer_place proposal_place is_assigned kind_tests kind_of asides_of points_of profile among pair_among is_within report_of is_below lacks_call out_of_order ill_formed house_fault fault stop_of last_ended ended refusal end_of is_hex64 is_seed
+unfolding digits is_name number_up_to cell cluster_at number_at owner_from need may distance count_below sum_below all_below numbers_below weights base_at remainder_at left_over comes_before cents_at is_valid denominator row row_points cents score cluster_size cluster_cents quota cumulative_quota rank seats selected filled empty_seats line_of over name_at person_at stand_alone place_of_number call_words applicants_words aside_words draw_words cluster_words applicant_words empty_words report_head report_body words word verb_in without_return lines is_blank verb_of is_review is_house has those number phase_after call_number register persons own_count cluster_of all_placed denominator_of registered_setting draw_of own_people people owners square_of reviewer_at name_pair open_setting seed_of seal_of setting has_pairs run_pairs reviewer_place proposal_place is_assigned kind_tests kind_of asides_of points_of profile among pair_among is_within report_of is_below lacks_call out_of_order ill_formed house_fault fault stop_of last_ended halt end_of is_hex64 is_seed
 returns-clause-range c = refl
 
 pub returns-clause-from_one : goal.returns-clause-from_one
-unfolding digits is_name number_up_to cell cluster_at number_at owner_from need may distance count_below sum_below all_below numbers_below weights base_at remainder_at left_over comes_before cents_at is_valid denominator row row_points cents score cluster_size cluster_cents quota cumulative_quota rank seats selected filled empty_seats line_of over name_at person_at stand_alone place_of_number call_words applicants_words aside_words draw_words cluster_words applicant_words empty_words report_head report_body words word verb_in without_return lines is_blank verb_of is_review is_house has those number phase_after call_number register persons own_count cluster_of all_placed denominator_of registered_setting draw_of own_people people owners square_of reviewer_at name_pair open_setting setting assigned reviewer_place proposal_place is_assigned kind_tests kind_of asides_of points_of profile among pair_among is_within report_of is_below lacks_call out_of_order ill_formed house_fault fault stop_of last_ended ended refusal end_of is_hex64 is_seed
+unfolding digits is_name number_up_to cell cluster_at number_at owner_from need may distance count_below sum_below all_below numbers_below weights base_at remainder_at left_over comes_before cents_at is_valid denominator row row_points cents score cluster_size cluster_cents quota cumulative_quota rank seats selected filled empty_seats line_of over name_at person_at stand_alone place_of_number call_words applicants_words aside_words draw_words cluster_words applicant_words empty_words report_head report_body words word verb_in without_return lines is_blank verb_of is_review is_house has those number phase_after call_number register persons own_count cluster_of all_placed denominator_of registered_setting draw_of own_people people owners square_of reviewer_at name_pair open_setting seed_of seal_of setting has_pairs run_pairs reviewer_place proposal_place is_assigned kind_tests kind_of asides_of points_of profile among pair_among is_within report_of is_below lacks_call out_of_order ill_formed house_fault fault stop_of last_ended halt end_of is_hex64 is_seed
 returns-clause-from_one c = refl
 
 pub returns-clause-known_applicant : goal.returns-clause-known_applicant
-unfolding digits is_name number_up_to cell cluster_at number_at owner_from need may distance count_below sum_below all_below numbers_below weights base_at remainder_at left_over comes_before cents_at is_valid denominator row row_points cents score cluster_size cluster_cents quota cumulative_quota rank seats selected filled empty_seats line_of over name_at person_at stand_alone place_of_number call_words applicants_words aside_words draw_words cluster_words applicant_words empty_words report_head report_body words word verb_in without_return lines is_blank verb_of is_review is_house has those number phase_after call_number register persons own_count cluster_of all_placed denominator_of registered_setting draw_of own_people people owners square_of reviewer_at name_pair open_setting setting assigned reviewer_place proposal_place is_assigned kind_tests kind_of asides_of points_of profile among pair_among is_within report_of is_below lacks_call out_of_order ill_formed house_fault fault stop_of last_ended ended refusal end_of is_hex64 is_seed
+unfolding digits is_name number_up_to cell cluster_at number_at owner_from need may distance count_below sum_below all_below numbers_below weights base_at remainder_at left_over comes_before cents_at is_valid denominator row row_points cents score cluster_size cluster_cents quota cumulative_quota rank seats selected filled empty_seats line_of over name_at person_at stand_alone place_of_number call_words applicants_words aside_words draw_words cluster_words applicant_words empty_words report_head report_body words word verb_in without_return lines is_blank verb_of is_review is_house has those number phase_after call_number register persons own_count cluster_of all_placed denominator_of registered_setting draw_of own_people people owners square_of reviewer_at name_pair open_setting seed_of seal_of setting has_pairs run_pairs reviewer_place proposal_place is_assigned kind_tests kind_of asides_of points_of profile among pair_among is_within report_of is_below lacks_call out_of_order ill_formed house_fault fault stop_of last_ended halt end_of is_hex64 is_seed
 returns-clause-known_applicant c = refl
 
 pub returns-clause-known_place : goal.returns-clause-known_place
-unfolding digits is_name number_up_to cell cluster_at number_at owner_from need may distance count_below sum_below all_below numbers_below weights base_at remainder_at left_over comes_before cents_at is_valid denominator row row_points cents score cluster_size cluster_cents quota cumulative_quota rank seats selected filled empty_seats line_of over name_at person_at stand_alone place_of_number call_words applicants_words aside_words draw_words cluster_words applicant_words empty_words report_head report_body words word verb_in without_return lines is_blank verb_of is_review is_house has those number phase_after call_number register persons own_count cluster_of all_placed denominator_of registered_setting draw_of own_people people owners square_of reviewer_at name_pair open_setting setting assigned reviewer_place proposal_place is_assigned kind_tests kind_of asides_of points_of profile among pair_among is_within report_of is_below lacks_call out_of_order ill_formed house_fault fault stop_of last_ended ended refusal end_of is_hex64 is_seed
+unfolding digits is_name number_up_to cell cluster_at number_at owner_from need may distance count_below sum_below all_below numbers_below weights base_at remainder_at left_over comes_before cents_at is_valid denominator row row_points cents score cluster_size cluster_cents quota cumulative_quota rank seats selected filled empty_seats line_of over name_at person_at stand_alone place_of_number call_words applicants_words aside_words draw_words cluster_words applicant_words empty_words report_head report_body words word verb_in without_return lines is_blank verb_of is_review is_house has those number phase_after call_number register persons own_count cluster_of all_placed denominator_of registered_setting draw_of own_people people owners square_of reviewer_at name_pair open_setting seed_of seal_of setting has_pairs run_pairs reviewer_place proposal_place is_assigned kind_tests kind_of asides_of points_of profile among pair_among is_within report_of is_below lacks_call out_of_order ill_formed house_fault fault stop_of last_ended halt end_of is_hex64 is_seed
 returns-clause-known_place c = refl
 
 pub returns-clause-known_pair : goal.returns-clause-known_pair
-unfolding digits is_name number_up_to cell cluster_at number_at owner_from need may distance count_below sum_below all_below numbers_below weights base_at remainder_at left_over comes_before cents_at is_valid denominator row row_points cents score cluster_size cluster_cents quota cumulative_quota rank seats selected filled empty_seats line_of over name_at person_at stand_alone place_of_number call_words applicants_words aside_words draw_words cluster_words applicant_words empty_words report_head report_body words word verb_in without_return lines is_blank verb_of is_review is_house has those number phase_after call_number register persons own_count cluster_of all_placed denominator_of registered_setting draw_of own_people people owners square_of reviewer_at name_pair open_setting setting assigned reviewer_place proposal_place is_assigned kind_tests kind_of asides_of points_of profile among pair_among is_within report_of is_below lacks_call out_of_order ill_formed house_fault fault stop_of last_ended ended refusal end_of is_hex64 is_seed
+unfolding digits is_name number_up_to cell cluster_at number_at owner_from need may distance count_below sum_below all_below numbers_below weights base_at remainder_at left_over comes_before cents_at is_valid denominator row row_points cents score cluster_size cluster_cents quota cumulative_quota rank seats selected filled empty_seats line_of over name_at person_at stand_alone place_of_number call_words applicants_words aside_words draw_words cluster_words applicant_words empty_words report_head report_body words word verb_in without_return lines is_blank verb_of is_review is_house has those number phase_after call_number register persons own_count cluster_of all_placed denominator_of registered_setting draw_of own_people people owners square_of reviewer_at name_pair open_setting seed_of seal_of setting has_pairs run_pairs reviewer_place proposal_place is_assigned kind_tests kind_of asides_of points_of profile among pair_among is_within report_of is_below lacks_call out_of_order ill_formed house_fault fault stop_of last_ended halt end_of is_hex64 is_seed
 returns-clause-known_pair c = refl
 
 pub returns-clause-no_person : goal.returns-clause-no_person
-unfolding digits is_name number_up_to cell cluster_at number_at owner_from need may distance count_below sum_below all_below numbers_below weights base_at remainder_at left_over comes_before cents_at is_valid denominator row row_points cents score cluster_size cluster_cents quota cumulative_quota rank seats selected filled empty_seats line_of over name_at person_at stand_alone place_of_number call_words applicants_words aside_words draw_words cluster_words applicant_words empty_words report_head report_body words word verb_in without_return lines is_blank verb_of is_review is_house has those number phase_after call_number register persons own_count cluster_of all_placed denominator_of registered_setting draw_of own_people people owners square_of reviewer_at name_pair open_setting setting assigned reviewer_place proposal_place is_assigned kind_tests kind_of asides_of points_of profile among pair_among is_within report_of is_below lacks_call out_of_order ill_formed house_fault fault stop_of last_ended ended refusal end_of is_hex64 is_seed
+unfolding digits is_name number_up_to cell cluster_at number_at owner_from need may distance count_below sum_below all_below numbers_below weights base_at remainder_at left_over comes_before cents_at is_valid denominator row row_points cents score cluster_size cluster_cents quota cumulative_quota rank seats selected filled empty_seats line_of over name_at person_at stand_alone place_of_number call_words applicants_words aside_words draw_words cluster_words applicant_words empty_words report_head report_body words word verb_in without_return lines is_blank verb_of is_review is_house has those number phase_after call_number register persons own_count cluster_of all_placed denominator_of registered_setting draw_of own_people people owners square_of reviewer_at name_pair open_setting seed_of seal_of setting has_pairs run_pairs reviewer_place proposal_place is_assigned kind_tests kind_of asides_of points_of profile among pair_among is_within report_of is_below lacks_call out_of_order ill_formed house_fault fault stop_of last_ended halt end_of is_hex64 is_seed
 returns-clause-no_person c = refl
 
 pub returns-clause-no_reviewer : goal.returns-clause-no_reviewer
-unfolding digits is_name number_up_to cell cluster_at number_at owner_from need may distance count_below sum_below all_below numbers_below weights base_at remainder_at left_over comes_before cents_at is_valid denominator row row_points cents score cluster_size cluster_cents quota cumulative_quota rank seats selected filled empty_seats line_of over name_at person_at stand_alone place_of_number call_words applicants_words aside_words draw_words cluster_words applicant_words empty_words report_head report_body words word verb_in without_return lines is_blank verb_of is_review is_house has those number phase_after call_number register persons own_count cluster_of all_placed denominator_of registered_setting draw_of own_people people owners square_of reviewer_at name_pair open_setting setting assigned reviewer_place proposal_place is_assigned kind_tests kind_of asides_of points_of profile among pair_among is_within report_of is_below lacks_call out_of_order ill_formed house_fault fault stop_of last_ended ended refusal end_of is_hex64 is_seed
+unfolding digits is_name number_up_to cell cluster_at number_at owner_from need may distance count_below sum_below all_below numbers_below weights base_at remainder_at left_over comes_before cents_at is_valid denominator row row_points cents score cluster_size cluster_cents quota cumulative_quota rank seats selected filled empty_seats line_of over name_at person_at stand_alone place_of_number call_words applicants_words aside_words draw_words cluster_words applicant_words empty_words report_head report_body words word verb_in without_return lines is_blank verb_of is_review is_house has those number phase_after call_number register persons own_count cluster_of all_placed denominator_of registered_setting draw_of own_people people owners square_of reviewer_at name_pair open_setting seed_of seal_of setting has_pairs run_pairs reviewer_place proposal_place is_assigned kind_tests kind_of asides_of points_of profile among pair_among is_within report_of is_below lacks_call out_of_order ill_formed house_fault fault stop_of last_ended halt end_of is_hex64 is_seed
 returns-clause-no_reviewer c = refl
 
 pub returns-clause-no_proposal : goal.returns-clause-no_proposal
-unfolding digits is_name number_up_to cell cluster_at number_at owner_from need may distance count_below sum_below all_below numbers_below weights base_at remainder_at left_over comes_before cents_at is_valid denominator row row_points cents score cluster_size cluster_cents quota cumulative_quota rank seats selected filled empty_seats line_of over name_at person_at stand_alone place_of_number call_words applicants_words aside_words draw_words cluster_words applicant_words empty_words report_head report_body words word verb_in without_return lines is_blank verb_of is_review is_house has those number phase_after call_number register persons own_count cluster_of all_placed denominator_of registered_setting draw_of own_people people owners square_of reviewer_at name_pair open_setting setting assigned reviewer_place proposal_place is_assigned kind_tests kind_of asides_of points_of profile among pair_among is_within report_of is_below lacks_call out_of_order ill_formed house_fault fault stop_of last_ended ended refusal end_of is_hex64 is_seed
+unfolding digits is_name number_up_to cell cluster_at number_at owner_from need may distance count_below sum_below all_below numbers_below weights base_at remainder_at left_over comes_before cents_at is_valid denominator row row_points cents score cluster_size cluster_cents quota cumulative_quota rank seats selected filled empty_seats line_of over name_at person_at stand_alone place_of_number call_words applicants_words aside_words draw_words cluster_words applicant_words empty_words report_head report_body words word verb_in without_return lines is_blank verb_of is_review is_house has those number phase_after call_number register persons own_count cluster_of all_placed denominator_of registered_setting draw_of own_people people owners square_of reviewer_at name_pair open_setting seed_of seal_of setting has_pairs run_pairs reviewer_place proposal_place is_assigned kind_tests kind_of asides_of points_of profile among pair_among is_within report_of is_below lacks_call out_of_order ill_formed house_fault fault stop_of last_ended halt end_of is_hex64 is_seed
 returns-clause-no_proposal c = refl
 
 pub returns-clause-unplaced : goal.returns-clause-unplaced
-unfolding digits is_name number_up_to cell cluster_at number_at owner_from need may distance count_below sum_below all_below numbers_below weights base_at remainder_at left_over comes_before cents_at is_valid denominator row row_points cents score cluster_size cluster_cents quota cumulative_quota rank seats selected filled empty_seats line_of over name_at person_at stand_alone place_of_number call_words applicants_words aside_words draw_words cluster_words applicant_words empty_words report_head report_body words word verb_in without_return lines is_blank verb_of is_review is_house has those number phase_after call_number register persons own_count cluster_of all_placed denominator_of registered_setting draw_of own_people people owners square_of reviewer_at name_pair open_setting setting assigned reviewer_place proposal_place is_assigned kind_tests kind_of asides_of points_of profile among pair_among is_within report_of is_below lacks_call out_of_order ill_formed house_fault fault stop_of last_ended ended refusal end_of is_hex64 is_seed
+unfolding digits is_name number_up_to cell cluster_at number_at owner_from need may distance count_below sum_below all_below numbers_below weights base_at remainder_at left_over comes_before cents_at is_valid denominator row row_points cents score cluster_size cluster_cents quota cumulative_quota rank seats selected filled empty_seats line_of over name_at person_at stand_alone place_of_number call_words applicants_words aside_words draw_words cluster_words applicant_words empty_words report_head report_body words word verb_in without_return lines is_blank verb_of is_review is_house has those number phase_after call_number register persons own_count cluster_of all_placed denominator_of registered_setting draw_of own_people people owners square_of reviewer_at name_pair open_setting seed_of seal_of setting has_pairs run_pairs reviewer_place proposal_place is_assigned kind_tests kind_of asides_of points_of profile among pair_among is_within report_of is_below lacks_call out_of_order ill_formed house_fault fault stop_of last_ended halt end_of is_hex64 is_seed
 returns-clause-unplaced c = refl
 
 pub returns-clause-taken_place : goal.returns-clause-taken_place
-unfolding digits is_name number_up_to cell cluster_at number_at owner_from need may distance count_below sum_below all_below numbers_below weights base_at remainder_at left_over comes_before cents_at is_valid denominator row row_points cents score cluster_size cluster_cents quota cumulative_quota rank seats selected filled empty_seats line_of over name_at person_at stand_alone place_of_number call_words applicants_words aside_words draw_words cluster_words applicant_words empty_words report_head report_body words word verb_in without_return lines is_blank verb_of is_review is_house has those number phase_after call_number register persons own_count cluster_of all_placed denominator_of registered_setting draw_of own_people people owners square_of reviewer_at name_pair open_setting setting assigned reviewer_place proposal_place is_assigned kind_tests kind_of asides_of points_of profile among pair_among is_within report_of is_below lacks_call out_of_order ill_formed house_fault fault stop_of last_ended ended refusal end_of is_hex64 is_seed
+unfolding digits is_name number_up_to cell cluster_at number_at owner_from need may distance count_below sum_below all_below numbers_below weights base_at remainder_at left_over comes_before cents_at is_valid denominator row row_points cents score cluster_size cluster_cents quota cumulative_quota rank seats selected filled empty_seats line_of over name_at person_at stand_alone place_of_number call_words applicants_words aside_words draw_words cluster_words applicant_words empty_words report_head report_body words word verb_in without_return lines is_blank verb_of is_review is_house has those number phase_after call_number register persons own_count cluster_of all_placed denominator_of registered_setting draw_of own_people people owners square_of reviewer_at name_pair open_setting seed_of seal_of setting has_pairs run_pairs reviewer_place proposal_place is_assigned kind_tests kind_of asides_of points_of profile among pair_among is_within report_of is_below lacks_call out_of_order ill_formed house_fault fault stop_of last_ended halt end_of is_hex64 is_seed
 returns-clause-taken_place c = refl
 
 pub returns-clause-taken_pair : goal.returns-clause-taken_pair
-unfolding digits is_name number_up_to cell cluster_at number_at owner_from need may distance count_below sum_below all_below numbers_below weights base_at remainder_at left_over comes_before cents_at is_valid denominator row row_points cents score cluster_size cluster_cents quota cumulative_quota rank seats selected filled empty_seats line_of over name_at person_at stand_alone place_of_number call_words applicants_words aside_words draw_words cluster_words applicant_words empty_words report_head report_body words word verb_in without_return lines is_blank verb_of is_review is_house has those number phase_after call_number register persons own_count cluster_of all_placed denominator_of registered_setting draw_of own_people people owners square_of reviewer_at name_pair open_setting setting assigned reviewer_place proposal_place is_assigned kind_tests kind_of asides_of points_of profile among pair_among is_within report_of is_below lacks_call out_of_order ill_formed house_fault fault stop_of last_ended ended refusal end_of is_hex64 is_seed
+unfolding digits is_name number_up_to cell cluster_at number_at owner_from need may distance count_below sum_below all_below numbers_below weights base_at remainder_at left_over comes_before cents_at is_valid denominator row row_points cents score cluster_size cluster_cents quota cumulative_quota rank seats selected filled empty_seats line_of over name_at person_at stand_alone place_of_number call_words applicants_words aside_words draw_words cluster_words applicant_words empty_words report_head report_body words word verb_in without_return lines is_blank verb_of is_review is_house has those number phase_after call_number register persons own_count cluster_of all_placed denominator_of registered_setting draw_of own_people people owners square_of reviewer_at name_pair open_setting seed_of seal_of setting has_pairs run_pairs reviewer_place proposal_place is_assigned kind_tests kind_of asides_of points_of profile among pair_among is_within report_of is_below lacks_call out_of_order ill_formed house_fault fault stop_of last_ended halt end_of is_hex64 is_seed
 returns-clause-taken_pair c = refl
 
 pub returns-clause-taken_name : goal.returns-clause-taken_name
-unfolding digits is_name number_up_to cell cluster_at number_at owner_from need may distance count_below sum_below all_below numbers_below weights base_at remainder_at left_over comes_before cents_at is_valid denominator row row_points cents score cluster_size cluster_cents quota cumulative_quota rank seats selected filled empty_seats line_of over name_at person_at stand_alone place_of_number call_words applicants_words aside_words draw_words cluster_words applicant_words empty_words report_head report_body words word verb_in without_return lines is_blank verb_of is_review is_house has those number phase_after call_number register persons own_count cluster_of all_placed denominator_of registered_setting draw_of own_people people owners square_of reviewer_at name_pair open_setting setting assigned reviewer_place proposal_place is_assigned kind_tests kind_of asides_of points_of profile among pair_among is_within report_of is_below lacks_call out_of_order ill_formed house_fault fault stop_of last_ended ended refusal end_of is_hex64 is_seed
+unfolding digits is_name number_up_to cell cluster_at number_at owner_from need may distance count_below sum_below all_below numbers_below weights base_at remainder_at left_over comes_before cents_at is_valid denominator row row_points cents score cluster_size cluster_cents quota cumulative_quota rank seats selected filled empty_seats line_of over name_at person_at stand_alone place_of_number call_words applicants_words aside_words draw_words cluster_words applicant_words empty_words report_head report_body words word verb_in without_return lines is_blank verb_of is_review is_house has those number phase_after call_number register persons own_count cluster_of all_placed denominator_of registered_setting draw_of own_people people owners square_of reviewer_at name_pair open_setting seed_of seal_of setting has_pairs run_pairs reviewer_place proposal_place is_assigned kind_tests kind_of asides_of points_of profile among pair_among is_within report_of is_below lacks_call out_of_order ill_formed house_fault fault stop_of last_ended halt end_of is_hex64 is_seed
 returns-clause-taken_name c = refl
 
 pub returns-clause-blank : goal.returns-clause-blank
-unfolding digits is_name number_up_to cell cluster_at number_at owner_from need may distance count_below sum_below all_below numbers_below weights base_at remainder_at left_over comes_before cents_at is_valid denominator row row_points cents score cluster_size cluster_cents quota cumulative_quota rank seats selected filled empty_seats line_of over name_at person_at stand_alone place_of_number call_words applicants_words aside_words draw_words cluster_words applicant_words empty_words report_head report_body words word verb_in without_return lines is_blank verb_of is_review is_house has those number phase_after call_number register persons own_count cluster_of all_placed denominator_of registered_setting draw_of own_people people owners square_of reviewer_at name_pair open_setting setting assigned reviewer_place proposal_place is_assigned kind_tests kind_of asides_of points_of profile among pair_among is_within report_of is_below lacks_call out_of_order ill_formed house_fault fault stop_of last_ended ended refusal end_of is_hex64 is_seed
+unfolding digits is_name number_up_to cell cluster_at number_at owner_from need may distance count_below sum_below all_below numbers_below weights base_at remainder_at left_over comes_before cents_at is_valid denominator row row_points cents score cluster_size cluster_cents quota cumulative_quota rank seats selected filled empty_seats line_of over name_at person_at stand_alone place_of_number call_words applicants_words aside_words draw_words cluster_words applicant_words empty_words report_head report_body words word verb_in without_return lines is_blank verb_of is_review is_house has those number phase_after call_number register persons own_count cluster_of all_placed denominator_of registered_setting draw_of own_people people owners square_of reviewer_at name_pair open_setting seed_of seal_of setting has_pairs run_pairs reviewer_place proposal_place is_assigned kind_tests kind_of asides_of points_of profile among pair_among is_within report_of is_below lacks_call out_of_order ill_formed house_fault fault stop_of last_ended halt end_of is_hex64 is_seed
 returns-clause-blank c = refl
 
 pub returns-clause-review : goal.returns-clause-review
-unfolding digits is_name number_up_to cell cluster_at number_at owner_from need may distance count_below sum_below all_below numbers_below weights base_at remainder_at left_over comes_before cents_at is_valid denominator row row_points cents score cluster_size cluster_cents quota cumulative_quota rank seats selected filled empty_seats line_of over name_at person_at stand_alone place_of_number call_words applicants_words aside_words draw_words cluster_words applicant_words empty_words report_head report_body words word verb_in without_return lines is_blank verb_of is_review is_house has those number phase_after call_number register persons own_count cluster_of all_placed denominator_of registered_setting draw_of own_people people owners square_of reviewer_at name_pair open_setting setting assigned reviewer_place proposal_place is_assigned kind_tests kind_of asides_of points_of profile among pair_among is_within report_of is_below lacks_call out_of_order ill_formed house_fault fault stop_of last_ended ended refusal end_of is_hex64 is_seed
+unfolding digits is_name number_up_to cell cluster_at number_at owner_from need may distance count_below sum_below all_below numbers_below weights base_at remainder_at left_over comes_before cents_at is_valid denominator row row_points cents score cluster_size cluster_cents quota cumulative_quota rank seats selected filled empty_seats line_of over name_at person_at stand_alone place_of_number call_words applicants_words aside_words draw_words cluster_words applicant_words empty_words report_head report_body words word verb_in without_return lines is_blank verb_of is_review is_house has those number phase_after call_number register persons own_count cluster_of all_placed denominator_of registered_setting draw_of own_people people owners square_of reviewer_at name_pair open_setting seed_of seal_of setting has_pairs run_pairs reviewer_place proposal_place is_assigned kind_tests kind_of asides_of points_of profile among pair_among is_within report_of is_below lacks_call out_of_order ill_formed house_fault fault stop_of last_ended halt end_of is_hex64 is_seed
 returns-clause-review c = refl

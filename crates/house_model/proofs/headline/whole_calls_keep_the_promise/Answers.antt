@@ -1,4 +1,4 @@
-use Rattle.house_model.proofs.HeadlineLemmas.{counted, isolated, rounded, means}
+use Rattle.house_model.proofs.HeadlineLemmas.{counted, isolated, rounded, means, in_any_order}
 use Rattle.house_model.proofs.headline.whole_calls_keep_the_promise.Goals as goal
 
 pub returns-clause-counted : goal.returns-clause-counted
@@ -12,3 +12,6 @@ returns-clause-rounded c = rounded
 
 pub returns-clause-means : goal.returns-clause-means
 returns-clause-means c = means
+
+pub returns-clause-order : goal.returns-clause-order
+returns-clause-order c = in_any_order

@@ -1,4 +1,4 @@
-use Rattle.std.proofs.Common.{◌≡◌, ◌≢◌, ℕ, zero, suc, ◌+◌, ◌*◌, ◌/◌, ◌%◌, ◌<◌, ◌≤◌, Bool, true, false, ◌&&◌, ◌||◌, ◌==◌, nat_lt, cond, List, [], ◌∷◌, length, get_or, map, flat_map, take, Some, None, slice_get, refl, sym, ap, ◌∙◌, inl, inr, arith, length-append}
+use Rattle.std.proofs.Common.{◌≡◌, ◌≢◌, ℕ, zero, suc, ◌+◌, ◌*◌, ◌/◌, ◌%◌, ◌<◌, Bool, true, false, ◌&&◌, ◌||◌, ◌==◌, nat_lt, cond, List, [], ◌∷◌, length, get_or, map, take, Some, None, slice_get, refl, sym, ap, ◌∙◌, inl, inr, arith}
 use Rattle.std.specs.List.{list_any}
 use Rattle.std.specs.Option.{option_map_or}
 use Rattle.std.proofs.Math.Nat.{mul_comm, div-add-mod, mod-lt, div-lt_iff_lt-mul}
@@ -15,15 +15,12 @@ use Rattle.house_base.proofs.Settings.{owner_from-first}
 use Rattle.house_model.specs.Counting.{numbers_below}
 use Rattle.house_model.specs.Report.{name_at}
 use Rattle.house_model.specs.Text.{Text}
-use Rattle.house_model.specs.Register.{Register, names, persons, own_count, own_people, people, owners, owners_from, square_of, name_pair, pair_among}
-use Rattle.house_model.proofs.AtIndexLemmas.{In-slice_get}
-use Rattle.house_model.proofs.NamingLemmas.{name_of_number}
+use Rattle.house_model.specs.Register.{Register, names, people, owners, square_of, name_pair, pair_among}
 use Rattle.house_model.proofs.CountingLemmas.{length-numbers_below, get_or-numbers_below}
 use Rattle.house_model.proofs.InOrderLemmas.{In, In-Contains, In-from_Contains}
-use Rattle.house_model.proofs.RegisterPeopleLemmas.{length-own_people, length-people, own_count-some}
-use Rattle.house_model.proofs.RegisterSettingLemmas.{names-owners_from}
 use Rattle.house_model.proofs.ReviewerLemmas.{cases_owner, reviewer_at-some, reviewer_at-none}
 use Rattle.cluster_draw.specs.Barred.{name_in, is_barred}
+use Rattle.cluster_draw.specs.Placings.{AreApplicants}
 
 -- The square of the barred pairs.
 
@@ -116,43 +113,16 @@ is_barred-more ps people owners i owner r p at =
     ∙ ap (λ o. list_any (λ w. w.first == r && pair_among ps w.name (name_in people p)) (take i owners) || (o.first == r && pair_among ps o.name (name_in people p)))
     (get_or_from_slice_get owners i owner owner at)
 
--- persons of a register, by their numbers
+-- an applicant, by its register number
+pub number_below : (reg : Register) (applicants : List Person) → AreApplicants reg applicants → (place : ℕ) (x : Person) → slice_get applicants place ≡ Some x
+    → x.number < length reg.applicants
+number_below reg applicants h place x at =
+    omega (arith, slice_get_within (names reg) x.number x.name (h.named place x at), length-map reg.applicants (λ a. a.0))
 
-pub name_of_owner : (reg : Register) (i : ℕ) (owner : Owner) → slice_get (owners reg) i ≡ Some owner → get_or (persons reg) i [] ≡ owner.name
-unfolding owners
-name_of_owner reg i owner at =
-    ap (λ l. get_or l i []) (sym (names-owners_from reg 0 (persons reg)))
-    ∙ (get_or-map (λ o. o.name) (owners_from reg 0 (persons reg)) i owner [] (slice_get_within (owners_from reg 0 (persons reg)) i owner at)
-    ∙ ap (λ o. o.name) (get_or_from_slice_get (owners_from reg 0 (persons reg)) i owner owner at))
-
-pub length-owners : (reg : Register) → length (owners reg) ≡ length (persons reg)
-unfolding owners
-length-owners reg = sym (length-map (owners_from reg 0 (persons reg)) (λ o. o.name)) ∙ ap length (names-owners_from reg 0 (persons reg))
-
-first_within : (reg : Register) (first : ℕ) (ps : List Text) (owner : Owner) → ((p : Text) → In p ps → 1 ≤ own_count reg p)
-    → In owner (owners_from reg first ps) → owner.first < first + length (flat_map (own_people reg) ps)
-first_within reg first [] owner some m = absurd m
-first_within reg first (p ∷ ps) owner some m =
-    let whole = length-append (own_people reg p) (flat_map (own_people reg) ps) in
-    elim m [
-      | inl e ↦ omega (arith, ap (λ o. o.first) e, some p (inl refl), length-own_people reg p, whole)
-      | inr there ↦ omega (arith, first_within reg (first + own_count reg p) ps owner (λ q qm. some q (inr qm)) there, length-own_people reg p, whole)
-    ]
-
-pub first_below : (reg : Register) (owner : Owner) → In owner (owners reg) → owner.first < length reg.applicants
-unfolding owners people
-first_below reg owner m = omega (arith, first_within reg 0 (persons reg) owner (own_count-some reg) m, length-people reg)
-
--- an applicant in place order, by its register number
-pub number_below : (reg : Register) (place : ℕ) (x : Person) → slice_get (people reg) place ≡ Some x → x.number < length reg.applicants
-number_below reg place x at =
-    let read = name_of_number reg x (In-slice_get (people reg) place x at) in
-    omega (arith, slice_get_within (names reg) x.number x.name read, length-map reg.applicants (λ a. a.0))
-
-pub name_of_place : (reg : Register) (place : ℕ) (x : Person) → slice_get (people reg) place ≡ Some x → get_or (names reg) x.number [] ≡ name_in (people reg) place
-name_of_place reg place x at =
-    get_or_from_slice_get (names reg) x.number x.name [] (name_of_number reg x (In-slice_get (people reg) place x at))
-    ∙ sym (ap (λ o. option_map_or (λ person. person.name) o []) at)
+pub name_of_place : (reg : Register) (applicants : List Person) → AreApplicants reg applicants → (place : ℕ) (x : Person) → slice_get applicants place ≡ Some x
+    → get_or (names reg) x.number [] ≡ name_in applicants place
+name_of_place reg applicants h place x at =
+    get_or_from_slice_get (names reg) x.number x.name [] (h.named place x at) ∙ sym (ap (λ o. option_map_or (λ person. person.name) o []) at)
 
 -- Among all persons: the one whose first place this is.
 

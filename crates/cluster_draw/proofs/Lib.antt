@@ -1,3 +1,5 @@
 pub mod BarredLemmas
+pub mod FreezeLemmas
 pub mod PeopleLemmas
+pub mod PlacingLemmas
 pub mod SettingLemmas

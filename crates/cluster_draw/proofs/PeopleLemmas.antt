@@ -1,28 +1,26 @@
-use Rattle.std.proofs.Common.{◌≡◌, ℕ, zero, suc, ◌+◌, ◌<◌, ◌≤◌, Bool, true, false, not, List, [], ◌∷◌, ◌++◌, length, get_or, map, filter, find, flat_map, take, drop, bytes_eq, Option, Some, None, is_some, IfSome, slice_get, refl, sym, ap, ◌∙◌, subst, inl, inr, arith, length-append, append-nil, append_assoc, length-take-le, le_of_lt}
+use Rattle.std.proofs.Common.{◌≡◌, ℕ, suc, ◌+◌, ◌<◌, ◌≤◌, true, false, List, [], ◌∷◌, ◌++◌, length, get_or, map, filter, find, flat_map, take, bytes_eq, Option, Some, None, is_some, IfSome, slice_get, refl, sym, ap, ◌∙◌, inl, inr, arith, length-append, append-nil, append_assoc, length-take-le, le_of_lt, zero, Bool, not, drop, subst}
 use Rattle.std.specs.List.{enumerate_from}
 use Rattle.std.specs.Option.{option_map, option_map_or, unwrap_or}
-use Rattle.std.proofs.lemmas.Bool.{cases_Bool, cases_lt, false≢true, cond-true, cond-false}
-use Rattle.std.proofs.lemmas.List.{take_more, map_push, map-append, take_all, take-map, take-append-drop, length-map}
+use Rattle.std.proofs.lemmas.Bool.{cond-true, cond-false, cases_Bool, cases_lt, false≢true}
+use Rattle.std.proofs.lemmas.List.{take_more, map_push, take_all, length-map, map-append, take-map, take-append-drop}
 use Rattle.std.proofs.lemmas.List.Elements.{filter-append}
 use Rattle.std.proofs.lemmas.List.Concat.{flat_map-append}
 use Rattle.std.proofs.lemmas.Option.{slice_get-map, slice_get_within, slice_get-get_or, get_or_from_slice_get, same_Some}
 use Rattle.house_base.specs.declared.plan.Person.{Person}
 use Rattle.house_base.specs.declared.plan.Owner.{Owner}
 use Rattle.house_model.specs.Text.{Text}
-use Rattle.house_model.specs.Register.{Register, names, persons, firsts, placed_names, own_count, own_people, people, owners, owners_from, entry, cluster_of, person_of, among}
+use Rattle.house_model.specs.Register.{Register, names, persons, placed_names, own_count, own_people, owners_from, entry, cluster_of, person_of, among, firsts}
 use Rattle.register_book.specs.Held.{text_at}
-use Rattle.house_model.proofs.AtIndexLemmas.{In-slice_get}
-use Rattle.house_model.proofs.InOrderLemmas.{In, filter-In}
-use Rattle.house_model.proofs.GroupLemmas.{In-group, bytes_eq-same, bytes_eq-other, not_In, not_among}
+use Rattle.cluster_draw.specs.Placings.{name_of, names_of, ArePlacings, own_rows, applicants_in}
+use Rattle.cluster_draw.specs.declared.placings.Placing.{Placing}
+use Rattle.house_model.proofs.InOrderLemmas.{In, All-In, filter-In}
+use Rattle.house_model.proofs.GroupLemmas.{In-group, bytes_eq-other, not_In, not_among, bytes_eq-same}
 use Rattle.house_model.proofs.RegisterPeopleLemmas.{Numbered, person_in, numbered, own_entries, length-own_people}
+use Rattle.house_model.proofs.AtIndexLemmas.{In-slice_get}
 
 -- The people of a plan, person by person.
 
 -- The applicants of one person.
-
--- the rows of a person's applicants among these, in this cluster
-abbrev pub own_rows : Text → ℕ → List Numbered → List Person
-own_rows person cluster es = map (λ e. record { name = e.1.0; cluster = cluster; number = e.0 }) (filter (λ e. bytes_eq e.1.1 person) es)
 
 enumerate_from-append : {X : Type 0} (n : ℕ) (xs ys : List X) → enumerate_from n (xs ++ ys) ≡ enumerate_from n xs ++ enumerate_from (n + length xs) ys
 enumerate_from-append n [] ys = ap (λ m. enumerate_from m ys) (let e : n ≡ n + 0 = omega arith in e)
@@ -166,18 +164,21 @@ not_found (p ∷ ps) person h =
     cond-false (bytes_eq p.0 person) (Some p) (find (λ q. bytes_eq q.0 person) ps) (bytes_eq-other p.0 person (λ e. absent (inl (sym e))))
     ∙ not_found ps person (not_among (map (λ q. q.0) ps) person (λ m. absent (inr m)))
 
-cluster_or_none : (reg : Register) (person : Text) (o : Option ℕ) → is_some o ≡ among (placed_names reg) person → IfSome o (λ cluster. cluster ≡ cluster_of reg person)
+pub cluster_or_none : (reg : Register) (person : Text) (o : Option ℕ) → is_some o ≡ among (placed_names reg) person → IfSome o (λ cluster. cluster ≡ cluster_of reg person)
     → unwrap_or o 0 ≡ cluster_of reg person
 unfolding cluster_of
 cluster_or_none reg person None placed same = sym (ap (λ w. option_map_or (λ p. p.1) w 0) (not_found reg.placed person (sym placed)))
 cluster_or_none reg person (Some cluster) placed same = same
 
--- as many rows as a person has applicants are in its whole list
-pub length-own_rows : (reg : Register) (cluster : ℕ) (person : Text) → length (own_rows person cluster (numbered reg)) ≡ own_count reg person
-length-own_rows reg cluster person =
+-- the applicants of a person in its cluster are its people
+pub own_rows-people : (reg : Register) (person : Text) (cluster : ℕ) → cluster ≡ cluster_of reg person → own_rows person cluster (numbered reg) ≡ own_people reg person
+own_rows-people reg person cluster e = ap (λ k. own_rows person k (numbered reg)) e ∙ own_rows-whole reg person
+
+pub length-own_rows : (reg : Register) (person : Text) (cluster : ℕ) → length (own_rows person cluster (numbered reg)) ≡ own_count reg person
+unfolding own_people
+length-own_rows reg person cluster =
     length-map (own_entries reg person) (λ e. record { name = e.1.0; cluster = cluster; number = e.0 })
-    ∙ (sym (length-map (own_entries reg person) (λ e. record { name = e.1.0; cluster = cluster_of reg person; number = e.0 }))
-    ∙ (ap length (own_rows-whole reg person) ∙ length-own_people reg person))
+    ∙ (sym (length-map (own_entries reg person) (entry reg)) ∙ length-own_people reg person)
 
 -- the rows among the first applicants are no more than the person has applicants
 pub own_rows-most : (reg : Register) (number cluster : ℕ) (person : Text)
@@ -185,23 +186,20 @@ pub own_rows-most : (reg : Register) (number cluster : ℕ) (person : Text)
 own_rows-most reg number cluster person =
     let front = own_rows person cluster (enumerate_from 0 (take number reg.applicants)) in
     let back = own_rows person cluster (enumerate_from (0 + length (take number reg.applicants)) (drop number reg.applicants)) in
-    omega (arith, ap length (own_rows-split person cluster number reg.applicants), length-append front back, length-own_rows reg cluster person)
+    omega (arith, ap length (own_rows-split person cluster number reg.applicants), length-append front back, length-own_rows reg person cluster)
 
 -- all of a person's rows, when as many were found as it has
-pub whole_own : (reg : Register) (person number cluster : ℕ) (name : Text) (o : Option ℕ) (before ps : List Person) → slice_get (persons reg) person ≡ Some name
-    → is_some o ≡ among (placed_names reg) (text_at (persons reg) person) → IfSome o (λ k. k ≡ cluster_of reg (text_at (persons reg) person)) → cluster ≡ unwrap_or o 0
+pub whole_own : (reg : Register) (person number cluster : ℕ) (name : Text) (before ps : List Person) → slice_get (persons reg) person ≡ Some name
     → length before + own_count reg (text_at (persons reg) person) ≤ length ps → ps ≡ before ++ own_rows name cluster (enumerate_from 0 (take number reg.applicants))
-    → ps ≡ before ++ own_people reg (text_at (persons reg) person)
-whole_own reg person number cluster name o before ps here placed same chosen l e =
+    → ps ≡ before ++ own_rows (text_at (persons reg) person) cluster (numbered reg)
+whole_own reg person number cluster name before ps here l e =
     let named = get_or_from_slice_get (persons reg) person name [] here in
-    let in_cluster = chosen ∙ (cluster_or_none reg (text_at (persons reg) person) o placed same ∙ ap (cluster_of reg) named) in
     let rows = own_rows name cluster (enumerate_from 0 (take number reg.applicants)) in
     let enough : length (own_rows name cluster (numbered reg)) ≤ length rows =
-    omega (arith, l, ap length e, length-append before rows, length-own_rows reg cluster name, ap (own_count reg) named) in
+    omega (arith, l, ap length e, length-append before rows, length-own_rows reg name cluster, ap (own_count reg) named) in
     e
-    ∙ ap (λ rows. before ++ rows)
-    (own_rows-enough name cluster number reg.applicants enough
-    ∙ (ap (λ k. own_rows name k (numbered reg)) in_cluster ∙ (own_rows-whole reg name ∙ ap (own_people reg) (sym named))))
+    ∙ ap (λ found. before ++ found)
+    (own_rows-enough name cluster number reg.applicants enough ∙ ap (λ t. own_rows t cluster (numbered reg)) (sym named))
 
 -- while fewer rows were found than a person has applicants, there are applicants that were not looked at
 pub own_left : (reg : Register) (number cluster : ℕ) (name : Text) (before ps : List Person) → length ps < length before + own_count reg name
@@ -211,56 +209,78 @@ own_left reg number cluster name before ps l e = elim (cases_lt number (length r
   | inr past ↦
       let rows = own_rows name cluster (enumerate_from 0 (take number reg.applicants)) in
       let all = ap (λ ys. length (own_rows name cluster (enumerate_from 0 ys))) (take_all number reg.applicants past) in
-      absurd (omega (arith, l, ap length e, length-append before rows, all, length-own_rows reg cluster name))
+      absurd (omega (arith, l, ap length e, length-append before rows, all, length-own_rows reg name cluster))
 ]
-
-pub length_whole : (reg : Register) (person : Text) (before ps : List Person) → ps ≡ before ++ own_people reg person → length ps ≡ length before + own_count reg person
-length_whole reg person before ps e = ap length e ∙ omega (arith, length-append before (own_people reg person), length-own_people reg person)
 
 pub push_row : (ps front rows : List Person) (row : Person) → ps ≡ front ++ rows → ps ++ row ∷ [] ≡ front ++ (rows ++ row ∷ [])
 push_row ps front rows row e = ap (λ l. l ++ row ∷ []) e ∙ append_assoc front rows (row ∷ [])
 
 -- One person more.
 
-owners_from-push : (reg : Register) (first : ℕ) (ps : List Text) (p : Text)
-    → owners_from reg first (ps ++ p ∷ []) ≡ owners_from reg first ps ++ record { name = p; first = first + length (flat_map (own_people reg) ps); own = own_count reg p } ∷ []
-owners_from-push reg first [] p = ap (λ n. record { name = p; first = n; own = own_count reg p } ∷ []) (let e : first ≡ first + 0 = omega arith in e)
-owners_from-push reg first (q ∷ qs) p =
-    ap (λ l. record { name = q; first = first; own = own_count reg q } ∷ l) (owners_from-push reg (first + own_count reg q) qs p
-    ∙ ap (λ n. owners_from reg (first + own_count reg q) qs ++ record { name = p; first = n; own = own_count reg p } ∷ [])
-    (let e : first + own_count reg q + length (flat_map (own_people reg) qs) ≡ first + length (flat_map (own_people reg) (q ∷ qs)) =
-    omega (arith, length-append (own_people reg q) (flat_map (own_people reg) qs), length-own_people reg q) in e))
+pub applicants_in-more : (reg : Register) (placings : List Placing) (n : ℕ) (placing : Placing) → slice_get placings n ≡ Some placing
+    → applicants_in reg (take (n + 1) placings) ≡ applicants_in reg (take n placings) ++ own_rows (name_of reg placing) placing.cluster (numbered reg)
+unfolding applicants_in
+applicants_in-more reg placings n placing at =
+    let rows : Placing → List Person = λ p. own_rows (name_of reg p) p.cluster (numbered reg) in
+    ap (flat_map rows) (placings_more placings n placing at)
+    ∙ (flat_map-append rows (take n placings) (placing ∷ []) ∙ ap (λ l. flat_map rows (take n placings) ++ l) (append-nil (rows placing)))
+  where
+    placings_more : (ps : List Placing) (k : ℕ) (p : Placing) → slice_get ps k ≡ Some p → take (k + 1) ps ≡ take k ps ++ p ∷ []
+    placings_more ps k p here = take_more ps k p (slice_get_within ps k p here) ∙ ap (λ q. take k ps ++ q ∷ []) (get_or_from_slice_get ps k p p here)
 
--- of the first persons by number
-abbrev pub people_up_to : Register → ℕ → List Person
-people_up_to reg n = flat_map (own_people reg) (take n (persons reg))
+applicants_in-first : (reg : Register) (placing : Placing) (placings : List Placing)
+    → applicants_in reg (placing ∷ placings) ≡ own_rows (name_of reg placing) placing.cluster (numbered reg) ++ applicants_in reg placings
+unfolding applicants_in
+applicants_in-first reg placing placings = refl
 
-abbrev pub owners_up_to : Register → ℕ → List Owner
-owners_up_to reg n = owners_from reg 0 (take n (persons reg))
+applicants_in-none : (reg : Register) → applicants_in reg [] ≡ []
+unfolding applicants_in
+applicants_in-none reg = refl
 
-persons_more : (reg : Register) (n : ℕ) (p : Text) → slice_get (persons reg) n ≡ Some p → take (n + 1) (persons reg) ≡ take n (persons reg) ++ p ∷ []
-persons_more reg n p at =
-    take_more (persons reg) n p (slice_get_within (persons reg) n p at) ∙ ap (λ t. take n (persons reg) ++ t ∷ []) (get_or_from_slice_get (persons reg) n p p at)
+owners_from-push : (reg : Register) (first : ℕ) (placings : List Placing) (placing : Placing)
+    → owners_from reg first (names_of reg (placings ++ placing ∷ []))
+    ≡ owners_from reg first (names_of reg placings) ++ record { name = name_of reg placing; first = first + length (applicants_in reg placings); own = own_count reg (name_of reg placing) } ∷ []
+owners_from-push reg first [] placing =
+    ap (λ n. record { name = name_of reg placing; first = n; own = own_count reg (name_of reg placing) } ∷ [])
+    (let e : first ≡ first + length (applicants_in reg []) = omega (arith, ap length (applicants_in-none reg)) in e)
+owners_from-push reg first (q ∷ qs) placing =
+    let p = name_of reg placing in
+    ap (λ l. record { name = name_of reg q; first = first; own = own_count reg (name_of reg q) } ∷ l) (owners_from-push reg (first + own_count reg (name_of reg q)) qs placing
+    ∙ ap (λ n. owners_from reg (first + own_count reg (name_of reg q)) (names_of reg qs) ++ record { name = name_of reg placing; first = n; own = own_count reg (name_of reg placing) } ∷ [])
+    (let e : first + own_count reg (name_of reg q) + length (applicants_in reg qs) ≡ first + length (applicants_in reg (q ∷ qs)) =
+    omega (arith, ap length (applicants_in-first reg q qs), length-append (own_rows (name_of reg q) q.cluster (numbered reg)) (applicants_in reg qs), length-own_rows reg (name_of reg q) q.cluster) in e))
 
-pub people-more : (reg : Register) (n : ℕ) (p : Text) → slice_get (persons reg) n ≡ Some p → people_up_to reg (n + 1) ≡ people_up_to reg n ++ own_people reg p
-people-more reg n p at =
-    ap (flat_map (own_people reg)) (persons_more reg n p at)
-    ∙ (flat_map-append (own_people reg) (take n (persons reg)) (p ∷ []) ∙ ap (λ l. people_up_to reg n ++ l) (append-nil (own_people reg p)))
+pub owners_in-more : (reg : Register) (placings : List Placing) (n : ℕ) (placing : Placing) → slice_get placings n ≡ Some placing
+    → owners_from reg 0 (names_of reg (take (n + 1) placings))
+    ≡ owners_from reg 0 (names_of reg (take n placings)) ++ record { name = name_of reg placing; first = length (applicants_in reg (take n placings)); own = own_count reg (name_of reg placing) } ∷ []
+owners_in-more reg placings n placing at =
+    ap (λ l. owners_from reg 0 (names_of reg l))
+    (take_more placings n placing (slice_get_within placings n placing at) ∙ ap (λ q. take n placings ++ q ∷ []) (get_or_from_slice_get placings n placing placing at))
+    ∙ (owners_from-push reg 0 (take n placings) placing
+    ∙ ap (λ k. owners_from reg 0 (names_of reg (take n placings)) ++ record { name = name_of reg placing; first = k; own = own_count reg (name_of reg placing) } ∷ [])
+    (let e : 0 + length (applicants_in reg (take n placings)) ≡ length (applicants_in reg (take n placings)) = omega arith in e))
 
-pub owners-more : (reg : Register) (n : ℕ) (p : Text) → slice_get (persons reg) n ≡ Some p
-    → owners_up_to reg (n + 1) ≡ owners_up_to reg n ++ record { name = p; first = length (people_up_to reg n); own = own_count reg p } ∷ []
-owners-more reg n p at =
-    ap (owners_from reg 0) (persons_more reg n p at)
-    ∙ (owners_from-push reg 0 (take n (persons reg)) p
-    ∙ ap (λ k. owners_up_to reg n ++ record { name = p; first = k; own = own_count reg p } ∷ []) (let e : 0 + length (people_up_to reg n) ≡ length (people_up_to reg n) = omega arith in e))
+pub applicants_in-start : (reg : Register) (placings : List Placing) → [] ≡ applicants_in reg (take 0 placings)
+unfolding applicants_in
+applicants_in-start reg placings = refl
 
-pub whole_people : (reg : Register) (n : ℕ) → length (persons reg) ≤ n → people_up_to reg n ≡ people reg
-unfolding people
-whole_people reg n l = ap (flat_map (own_people reg)) (take_all n (persons reg) l)
+-- The applicants of all placings are the people of the register.
 
-pub whole_owners : (reg : Register) (n : ℕ) → length (persons reg) ≤ n → owners_up_to reg n ≡ owners reg
-unfolding owners
-whole_owners reg n l = ap (owners_from reg 0) (take_all n (persons reg) l)
+flat_map-agree : {X Y : Type 0} (f g : X → List Y) (xs : List X) → ((x : X) → In x xs → f x ≡ g x) → flat_map f xs ≡ flat_map g xs
+flat_map-agree f g [] h = refl
+flat_map-agree f g (x ∷ xs) h = ap (λ y. y ++ flat_map f xs) (h x (inl refl)) ∙ ap (λ l. g x ++ l) (flat_map-agree f g xs (λ y m. h y (inr m)))
+
+flat_map-map : {X Y Z : Type 0} (f : Y → List Z) (g : X → Y) (xs : List X) → flat_map (λ x. f (g x)) xs ≡ flat_map f (map g xs)
+flat_map-map f g [] = refl
+flat_map-map f g (x ∷ xs) = ap (λ l. f (g x) ++ l) (flat_map-map f g xs)
+
+pub applicants_in-people : (reg : Register) (order : List Text) (placings : List Placing) → ArePlacings reg order placings
+    → applicants_in reg placings ≡ flat_map (own_people reg) order
+unfolding applicants_in
+applicants_in-people reg order placings h =
+    flat_map-agree (λ p. own_rows (name_of reg p) p.cluster (numbered reg)) (λ p. own_people reg (name_of reg p)) placings
+    (λ p m. own_rows-people reg (name_of reg p) p.cluster (All-In (λ q. q.cluster ≡ cluster_of reg (name_of reg q)) placings p h.clusters m))
+    ∙ (flat_map-map (own_people reg) (name_of reg) placings ∙ ap (flat_map (own_people reg)) h.named)
 
 pub same_owner : (a : Owner) (name : Text) (first own : ℕ) → a.name ≡ name → a.first ≡ first → a.own ≡ own → ◌≡◌ {A = Owner} a (record { name = name; first = first; own = own })
 same_owner a name first own e f g =

@@ -7,11 +7,14 @@ use Rattle.house_base.specs.Grid.{Square, cell}
 use Rattle.house_base.specs.Setting.{Setting, owner_from}
 use Rattle.house_model.specs.Report.{name_at}
 use Rattle.house_model.specs.Text.{Text}
-use Rattle.house_model.specs.Register.{Register, IsRegister, names, persons, people, owners, among, square_of, open_setting, registered_setting, name_pair, pair_among, reviewer_at}
+use Rattle.house_model.specs.Register.{Register, IsRegister, names, persons, owners_from, among, square_of, name_pair, pair_among, reviewer_at}
+use Rattle.house_model.specs.Seeds.{open_setting_in, setting_in}
+use Rattle.house_model.specs.Text.{Text}
 use Rattle.house_model.proofs.GroupLemmas.{among-In, firsts-In}
 use Rattle.house_model.proofs.InOrderLemmas.{In, All-In, map-In}
 use Rattle.house_model.proofs.RegisterLemmas.{their_persons}
-use Rattle.house_model.proofs.RegisterSettingLemmas.{MakesSetting, IsSetting-registered_setting}
+use Rattle.house_model.proofs.OrderedLemmas.{IsOrder, people_in, IsSetting-setting_in}
+use Rattle.house_model.proofs.RegisterSettingLemmas.{MakesSetting}
 use Rattle.house_model.proofs.ReviewerLemmas.{no_name}
 use Rattle.cluster_draw.specs.Barred.{is_barred}
 use Rattle.cluster_draw.proofs.BarredLemmas.{is_barred-named, square_by_cells}
@@ -30,27 +33,28 @@ abbrev pub OfPersons : Register → Type 0
 OfPersons reg = (a b : Text) → IsTrue (pair_among reg.barred a b) → IsTrue (among (persons reg) a) × IsTrue (among (names reg) b)
 
 -- the pairs of names are the same before and after pairs are barred
-named_alike : (seats clusters reviews : ℕ) (reg : Register) (r p : ℕ)
-    → name_pair reg.barred (registered_setting seats clusters reviews reg) r p ≡ name_pair reg.barred (open_setting seats clusters reviews reg) r p
-unfolding name_pair reviewer_at owner_from name_at registered_setting open_setting
-named_alike seats clusters reviews reg r p = refl
+named_alike : (order : List Text) (seats clusters reviews : ℕ) (reg : Register) (r p : ℕ)
+    → name_pair reg.barred (setting_in order seats clusters reviews reg) r p ≡ name_pair reg.barred (open_setting_in order seats clusters reviews reg) r p
+unfolding name_pair reviewer_at owner_from name_at setting_in open_setting_in
+named_alike order seats clusters reviews reg r p = refl
 
-module _ (seats clusters reviews : ℕ) (reg : Register) (h : MakesSetting seats clusters reviews reg) (known : OfPersons reg) where
-  barred_alike : (r p : ℕ) → is_barred reg.barred (people reg) (owners reg) r p ≡ name_pair reg.barred (registered_setting seats clusters reviews reg) r p
-  unfolding registered_setting open_setting
+module _ (order : List Text) (seats clusters reviews : ℕ) (reg : Register) (h : MakesSetting seats clusters reviews reg) (o : IsOrder reg order) (known : OfPersons reg) where
+  barred_alike : (r p : ℕ) → is_barred reg.barred (people_in reg order) (owners_from reg 0 order) r p ≡ name_pair reg.barred (setting_in order seats clusters reviews reg) r p
+  unfolding setting_in open_setting_in
   barred_alike r p =
-      is_barred-named reg.barred (registered_setting seats clusters reviews reg) r p (IsSetting-registered_setting seats clusters reviews reg h)
+      is_barred-named reg.barred (setting_in order seats clusters reviews reg) r p (IsSetting-setting_in seats clusters reviews reg order h o)
       (λ b. false_from_ne_true (pair_among reg.barred [] b) (λ e. no_person reg h.register (among-In (persons reg) [] (known [] b e).0)))
 
-  pub registered_setting-parts : (ps : List Person) (os : List Owner) (barred : Square) → ps ≡ people reg → os ≡ owners reg
+  pub setting_in-parts : (ps : List Person) (os : List Owner) (barred : Square) → ps ≡ people_in reg order → os ≡ owners_from reg 0 order
       → barred.side ≡ length reg.applicants → length barred.cells ≡ barred.side * barred.side
-      → ((r p : ℕ) → r < length reg.applicants → p < length reg.applicants → cell barred r p ≡ is_barred reg.barred (people reg) (owners reg) r p)
-      → ◌≡◌ {A = Setting} (record { seats = seats; clusters = clusters; reviews = reviews; people = ps; owners = os; barred = barred }) (registered_setting seats clusters reviews reg)
-  unfolding registered_setting open_setting
-  registered_setting-parts ps os barred those theirs side many each =
-      let square : barred ≡ square_of (length reg.applicants) (name_pair reg.barred (open_setting seats clusters reviews reg)) =
-      square_by_cells barred (length reg.applicants) (name_pair reg.barred (open_setting seats clusters reviews reg)) side (many ∙ ap (λ n. n * n) side)
-      (λ r p rl pl. each r p rl pl ∙ (barred_alike r p ∙ named_alike seats clusters reviews reg r p)) in
+      → ((r p : ℕ) → r < length reg.applicants → p < length reg.applicants → cell barred r p ≡ is_barred reg.barred ps os r p)
+      → ◌≡◌ {A = Setting} (record { seats = seats; clusters = clusters; reviews = reviews; people = ps; owners = os; barred = barred }) (setting_in order seats clusters reviews reg)
+  unfolding setting_in open_setting_in
+  setting_in-parts ps os barred those theirs side many each =
+      let square : barred ≡ square_of (length reg.applicants) (name_pair reg.barred (open_setting_in order seats clusters reviews reg)) =
+      square_by_cells barred (length reg.applicants) (name_pair reg.barred (open_setting_in order seats clusters reviews reg)) side (many ∙ ap (λ n. n * n) side)
+      (λ r p rl pl. each r p rl pl ∙ (ap (λ l. is_barred reg.barred l os r p) those ∙ (ap (λ l. is_barred reg.barred (people_in reg order) l r p) theirs
+      ∙ (barred_alike r p ∙ named_alike order seats clusters reviews reg r p)))) in
       ap (λ qs. record { seats = seats; clusters = clusters; reviews = reviews; people = qs; owners = os; barred = barred }) those
-      ∙ (ap (λ us. record { seats = seats; clusters = clusters; reviews = reviews; people = people reg; owners = us; barred = barred }) theirs
-      ∙ ap (λ b. record { seats = seats; clusters = clusters; reviews = reviews; people = people reg; owners = owners reg; barred = b }) square)
+      ∙ (ap (λ us. record { seats = seats; clusters = clusters; reviews = reviews; people = people_in reg order; owners = us; barred = barred }) theirs
+      ∙ ap (λ b. record { seats = seats; clusters = clusters; reviews = reviews; people = people_in reg order; owners = owners_from reg 0 order; barred = b }) square)

@@ -1,1 +1,2 @@
 pub mod Barred
+pub mod Placings

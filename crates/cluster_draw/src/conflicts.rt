@@ -2,10 +2,12 @@
 
 ghost use Rattle.std.specs.Prelude.{◌≡◌, ℕ, ◌<◌, ◌*◌, ◌==◌, ◌&&◌, ◌||◌, IfOk, length, slice_index_or};
 ghost use Rattle.house_base.specs.Grid.{cell};
-ghost use Rattle.house_model.specs.Register.{persons, people, owners, pair_among};
+ghost use Rattle.house_model.specs.Register.{persons, pair_among};
 ghost use Rattle.register_book.specs.Held.{text_at};
 ghost use Rattle.cluster_draw.specs.Barred.{is_barred, name_in};
+ghost use Rattle.cluster_draw.specs.Placings.{AreApplicants, AreReviewers};
 
+use crate::placings::Placing;
 use house_base::{Grid, Memory, Owner, Person};
 use register_book::Book;
 use std::alloc::Global;
@@ -16,18 +18,19 @@ pub fn barred_pairs(
     book: &Book,
     applicants: &[Person],
     reviewers: &[Owner],
+    placings: &[Placing],
 ) -> Result<Grid, Memory>
-    requires applicants { applicants.now ≡ people book.now }
-    requires reviewers { reviewers.now ≡ owners book.now }
+    requires applicants { AreApplicants book.now applicants.now }
+    requires reviewers { AreReviewers book.now placings.now reviewers.now }
     ensures side { IfOk result (λ grid. grid.side ≡ length book.now.applicants) }
     ensures square { IfOk result (λ grid. length grid.cells ≡ grid.side * grid.side) }
     ensures cells { IfOk result (λ grid. (r p : ℕ) → r < length book.now.applicants → p < length book.now.applicants
-        → cell grid r p ≡ is_barred book.now.barred (people book.now) (owners book.now) r p) }
+        → cell grid r p ≡ is_barred book.now.barred applicants.now reviewers.now r p) }
 {
     let mut barred = Grid::new(alloc, book.count())?;
-    for person in 0..book.persons() {
-        let reviewer = reviewers[person as usize];
-        bar_person(&mut barred, book, applicants, person, reviewer.first);
+    for index in 0..placings.len() {
+        let first = reviewers[index].first;
+        bar_person(&mut barred, book, applicants, placings[index].person, first);
     }
     Ok(barred)
 }
@@ -35,14 +38,14 @@ pub fn barred_pairs(
 /// Bars the person with a number, whose first place this is, from each applicant in a conflict with it.
 fn bar_person(barred: &mut Grid, book: &Book, applicants: &[Person], person: u32, first: u32)
     requires side { barred.old.side ≡ length book.now.applicants }
-    requires applicants { applicants.now ≡ people book.now }
+    requires applicants { AreApplicants book.now applicants.now }
     requires known { person < length (persons book.now) }
     requires first_below { first < length book.now.applicants }
     ensures side { barred.new.side ≡ barred.old.side }
     ensures as_many { length barred.new.cells ≡ length barred.old.cells }
     ensures cells { (r p : ℕ) → r < length book.now.applicants → p < length book.now.applicants → cell barred.new r p
         ≡ (cell barred.old r p || (first == r
-        && pair_among book.now.barred (text_at (persons book.now) person) (name_in (people book.now) p))) }
+        && pair_among book.now.barred (text_at (persons book.now) person) (name_in applicants.now p))) }
 {
     if !book.has_conflict(person) {
         return;

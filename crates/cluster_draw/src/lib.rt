@@ -1,5 +1,5 @@
 //! The plan of a call: the applicants of its register in place order, with the clusters into which their persons
-//! were put.
+//! were put, or which a seed draws for them.
 
 #![tactic(auto)]
 
@@ -7,6 +7,7 @@ mod conflicts;
 pub mod fault;
 pub mod laws;
 mod people;
+mod placings;
 pub mod plan;
 
 pub use fault::FreezeFault;

@@ -1,10 +1,14 @@
-//! The seats that the lottery gives a cluster.
+//! The seats that the lottery gives a cluster at a draw, and the draw that a seed gives.
 
 #![tactic(auto)]
 
 ghost use Rattle.std.specs.Prelude.{◌≡◌, ◌+◌, ◌^◌, ◌<◌, ◌≤◌};
 ghost use Rattle.house_model.specs.Laws.{IsRounded};
 ghost use Rattle.house_model.specs.Marks.{marks};
+
+pub mod seed;
+
+pub use seed::{draw_of, is_sealed_by, seal_of};
 
 /// The seats of a cluster at a draw, as in Madow's systematic sampling: how many marks, which stand at the draw and
 /// every `den` further on, lie in the stretch of the line that begins at `before` and has this width. For a cluster

@@ -1,55 +1,61 @@
-use Rattle.std.proofs.Common.{refl, sym, ap, ◌∙◌, ◌*◌, ◌<◌, ◌==◌, ◌&&◌, ◌||◌, false, arith, length, take, slice_get}
+use Rattle.std.proofs.Common.{sym, ap, ◌∙◌, ◌*◌, ◌==◌, ◌&&◌, ◌||◌, false, arith, length, get_or, take}
 use Rattle.std.proofs.lemmas.List.{length-replicate, take_all}
-use Rattle.std.proofs.lemmas.Option.{slice_get_read}
-use Rattle.house_model.specs.Register.{persons, people, owners, pair_among}
-use Rattle.house_model.proofs.AtIndexLemmas.{In-slice_get}
-use Rattle.register_book.specs.Held.{text_at}
+use Rattle.std.proofs.lemmas.Option.{slice_get-get_or}
+use Rattle.house_model.specs.Register.{pair_among}
 use Rattle.cluster_draw.specs.Barred.{name_in, is_barred}
-use Rattle.cluster_draw.proofs.BarredLemmas.{is_barred-none, is_barred-more, name_of_owner, length-owners, first_below}
+use Rattle.cluster_draw.specs.Placings.{name_of}
+use Rattle.cluster_draw.specs.declared.placings.Placing.{Placing}
+use Rattle.cluster_draw.proofs.BarredLemmas.{is_barred-none, is_barred-more}
 use Rattle.cluster_draw.proofs.conflicts.barred_pairs.Goals as goal
 
-pub loop-person-init : goal.loop-person-init
-loop-person-init c =
+pub loop-index-init : goal.loop-index-init
+loop-index-init c =
     let count = c.count.ensures.value in
     record {
       side = c.in_ok-barred.ensures.side ∙ count;
       square = ap (λ grid. length grid.cells) c.in_ok-barred.ensures.whole ∙ (length-replicate (c.count.result * c.count.result) false ∙ ap (λ n. n * n) count);
-      cells = λ r p rl pl. c.in_ok-barred.ensures.empty r p ∙ sym (is_barred-none c.args.book.now.barred (people c.args.book.now) r p);
+      cells = λ r p rl pl. c.in_ok-barred.ensures.empty r p ∙ sym (is_barred-none c.args.book.now.barred c.args.applicants.now r p);
     }
 
-pub bounds-reviewers-person : goal.bounds-reviewers-person
-bounds-reviewers-person c = omega (arith, c.loop-person-test.true, c.persons-person-end.ensures.value, ap length c.requires.reviewers, length-owners c.args.book.now)
+pub bounds-reviewers-index : goal.bounds-reviewers-index
+bounds-reviewers-index c = omega (arith, c.loop-index-test.true, c.requires.reviewers.many)
+
+pub bar_person-requires-clause-known : goal.bar_person-requires-clause-known
+bar_person-requires-clause-known c =
+    let nobody : Placing = record { person = 0; cluster = 0 } in
+    c.requires.reviewers.known c.loop-index.index (get_or c.args.placings.now c.loop-index.index nobody)
+    (slice_get-get_or c.args.placings.now c.loop-index.index nobody c.loop-index-test.true)
 
 pub bar_person-requires-clause-first_below : goal.bar_person-requires-clause-first_below
 bar_person-requires-clause-first_below c =
-    let reg = c.args.book.now in
-    let owner = c.index-reviewers-person.result in
-    let within : c.loop-person.person < length c.args.reviewers.now = omega (arith, c.loop-person-test.true, c.persons-person-end.ensures.value, ap length c.requires.reviewers, length-owners reg) in
-    let at = ap (λ l. slice_get l c.loop-person.person) (sym c.requires.reviewers)
-    ∙ slice_get_read c.args.reviewers.now (length c.args.reviewers.now) c.loop-person.person owner refl within c.index-reviewers-person.is in
-    first_below reg owner (In-slice_get (owners reg) c.loop-person.person owner at)
+    let any = c.index-reviewers-index.result in
+    c.requires.reviewers.first c.loop-index.index (get_or c.args.reviewers.now c.loop-index.index any)
+    (slice_get-get_or c.args.reviewers.now c.loop-index.index any (omega (arith, c.loop-index-test.true, c.requires.reviewers.many)))
 
-pub loop-person-preserved : goal.loop-person-preserved
-loop-person-preserved c =
+pub loop-index-preserved : goal.loop-index-preserved
+loop-index-preserved c =
     let reg = c.args.book.now in
-    let person = c.loop-person.person in
-    let owner = c.index-reviewers-person.result in
-    let within : c.loop-person.person < length c.args.reviewers.now = omega (arith, c.loop-person-test.true, c.persons-person-end.ensures.value, ap length c.requires.reviewers, length-owners reg) in
-    let at = ap (λ l. slice_get l c.loop-person.person) (sym c.requires.reviewers)
-    ∙ slice_get_read c.args.reviewers.now (length c.args.reviewers.now) c.loop-person.person owner refl within c.index-reviewers-person.is in
+    let index = c.loop-index.index in
+    let nobody : Placing = record { person = 0; cluster = 0 } in
+    let placing = get_or c.args.placings.now index nobody in
+    let any = c.index-reviewers-index.result in
+    let owner = get_or c.args.reviewers.now index any in
+    let here = slice_get-get_or c.args.placings.now index nobody c.loop-index-test.true in
+    let at = slice_get-get_or c.args.reviewers.now index any (omega (arith, c.loop-index-test.true, c.requires.reviewers.many)) in
     record {
-      side = c.bar_person.ensures.side ∙ c.loop-person.invariant.side;
-      square = c.bar_person.ensures.as_many ∙ c.loop-person.invariant.square;
+      side = c.bar_person.ensures.side ∙ c.loop-index.invariant.side;
+      square = c.bar_person.ensures.as_many ∙ c.loop-index.invariant.square;
       cells = λ r p rl pl.
           c.bar_person.ensures.cells r p rl pl
-          ∙ (ap (λ b. b || (owner.first == r && pair_among reg.barred (text_at (persons reg) person) (name_in (people reg) p))) (c.loop-person.invariant.cells r p rl pl)
-          ∙ (ap (λ t. is_barred reg.barred (people reg) (take person (owners reg)) r p || (owner.first == r && pair_among reg.barred t (name_in (people reg) p))) (name_of_owner reg person owner at)
-          ∙ sym (is_barred-more reg.barred (people reg) (owners reg) person owner r p at)));
+          ∙ (ap (λ b. b || (owner.first == r && pair_among reg.barred (name_of reg placing) (name_in c.args.applicants.now p))) (c.loop-index.invariant.cells r p rl pl)
+          ∙ (ap (λ t. is_barred reg.barred c.args.applicants.now (take index c.args.reviewers.now) r p || (owner.first == r && pair_among reg.barred t (name_in c.args.applicants.now p)))
+          (c.requires.reviewers.named index placing owner here at)
+          ∙ sym (is_barred-more reg.barred c.args.applicants.now c.args.reviewers.now index owner r p at)));
     }
 
 pub returns-clause-cells : goal.returns-clause-cells
 returns-clause-cells c =
-    let reg = c.args.book.now in
     λ r p rl pl.
-    c.loop-person.invariant.cells r p rl pl
-    ∙ ap (λ os. is_barred reg.barred (people reg) os r p) (take_all c.loop-person.person (owners reg) (omega (arith, c.loop-person-test.false, c.persons-person-end.ensures.value, length-owners reg)))
+    c.loop-index.invariant.cells r p rl pl
+    ∙ ap (λ os. is_barred c.args.book.now.barred c.args.applicants.now os r p)
+    (take_all c.loop-index.index c.args.reviewers.now (omega (arith, c.loop-index-test.false, c.requires.reviewers.many)))

@@ -1,29 +1,44 @@
-use Rattle.std.proofs.Common.{◌≡◌, ◌++◌, ◌∷◌, [], sym, ap, ◌∙◌, arith, length}
+use Rattle.std.proofs.Common.{◌≡◌, ◌++◌, ◌∷◌, [], sym, ap, ◌∙◌, arith, length, get_or, take, length-append}
+use Rattle.std.proofs.lemmas.List.{take_all}
 use Rattle.std.proofs.lemmas.Option.{slice_get-get_or}
-use Rattle.house_model.specs.Register.{persons, own_count, own_people}
-use Rattle.register_book.specs.Held.{text_at}
-use Rattle.cluster_draw.proofs.PeopleLemmas.{people_up_to, owners_up_to, people-more, owners-more, length_whole, same_owner, whole_people, whole_owners}
+use Rattle.house_model.specs.Register.{own_count, owners_from}
+use Rattle.house_model.proofs.RegisterPeopleLemmas.{numbered}
+use Rattle.cluster_draw.specs.Placings.{name_of, names_of, own_rows, applicants_in}
+use Rattle.cluster_draw.specs.declared.placings.Placing.{Placing}
+use Rattle.cluster_draw.proofs.PeopleLemmas.{applicants_in-start, applicants_in-more, owners_in-more, length-own_rows, same_owner}
 use Rattle.cluster_draw.proofs.people.people_and_owners.Goals as goal
 
-pub loop-person-preserved : goal.loop-person-preserved
-loop-person-preserved c =
+pub loop-index-init : goal.loop-index-init
+loop-index-init c = record {
+  people = c.new-people.ensures.items ∙ applicants_in-start c.args.book.now c.args.placings.now;
+  owners = c.new-owners.ensures.items;
+  short = omega (arith, ap length c.new-people.ensures.items);
+}
+
+pub loop-index-preserved : goal.loop-index-preserved
+loop-index-preserved c =
     let reg = c.args.book.now in
-    let index = c.loop-person.person in
-    let person = text_at (persons reg) index in
-    let here = slice_get-get_or (persons reg) index [] (omega (arith, c.loop-person-test.true, c.persons-person-end.ensures.value)) in
-    let people_longer : c.push_own.new.people.items ≡ c.loop-person.people.items ++ own_people reg person = c.in_ok-owner.ensures.people in
+    let index = c.loop-index.index in
+    let placings = c.args.placings.now in
+    let nobody : Placing = record { person = 0; cluster = 0 } in
+    let placing = get_or placings index nobody in
+    let here = slice_get-get_or placings index nobody c.loop-index-test.true in
+    let rows = own_rows (name_of reg placing) placing.cluster (numbered reg) in
+    let longer : c.push_own.new.people.items ≡ c.loop-index.people.items ++ rows = c.in_ok-owner.ensures.people in
     record {
-      people = people_longer ∙ (ap (λ l. l ++ own_people reg person) c.loop-person.invariant.people ∙ sym (people-more reg index person here));
+      people = longer ∙ (ap (λ l. l ++ rows) c.loop-index.invariant.people ∙ sym (applicants_in-more reg placings index placing here));
       owners = c.in_ok-push.ensures.items
-          ∙ (ap (λ l. l ++ c.in_ok-owner.owner ∷ []) c.loop-person.invariant.owners
-          ∙ (ap (λ o. owners_up_to reg index ++ o ∷ [])
-          (same_owner c.in_ok-owner.owner person (length (people_up_to reg index)) (own_count reg person) c.in_ok-owner.ensures.name
-          (omega (arith, c.in_ok-owner.ensures.first, ap length c.loop-person.invariant.people)) c.in_ok-owner.ensures.own)
-          ∙ sym (owners-more reg index person here)));
+          ∙ (ap (λ l. l ++ c.in_ok-owner.owner ∷ []) c.loop-index.invariant.owners
+          ∙ (ap (λ o. owners_from reg 0 (names_of reg (take index placings)) ++ o ∷ [])
+          (same_owner c.in_ok-owner.owner (name_of reg placing) (length (applicants_in reg (take index placings))) (own_count reg (name_of reg placing)) c.in_ok-owner.ensures.name
+          (omega (arith, c.in_ok-owner.ensures.first, ap length c.loop-index.invariant.people)) c.in_ok-owner.ensures.own)
+          ∙ sym (owners_in-more reg placings index placing here)));
       short = omega (
         arith,
-        length_whole reg person c.loop-person.people.items c.push_own.new.people.items people_longer,
-        c.loop-person.invariant.short,
+        ap length longer,
+        length-append c.loop-index.people.items rows,
+        length-own_rows reg (name_of reg placing) placing.cluster,
+        c.loop-index.invariant.short,
         c.in_ok-owner.ensures.own,
         c.in_ok-owner.ensures.few_own,
       );
@@ -31,8 +46,9 @@ loop-person-preserved c =
 
 pub returns-clause-people : goal.returns-clause-people
 returns-clause-people c =
-    c.loop-person.invariant.people ∙ whole_people c.args.book.now c.loop-person.person (omega (arith, c.loop-person-test.false, c.persons-person-end.ensures.value))
+    c.loop-index.invariant.people ∙ ap (applicants_in c.args.book.now) (take_all c.loop-index.index c.args.placings.now (omega (arith, c.loop-index-test.false)))
 
 pub returns-clause-owners : goal.returns-clause-owners
 returns-clause-owners c =
-    c.loop-person.invariant.owners ∙ whole_owners c.args.book.now c.loop-person.person (omega (arith, c.loop-person-test.false, c.persons-person-end.ensures.value))
+    c.loop-index.invariant.owners
+    ∙ ap (λ l. owners_from c.args.book.now 0 (names_of c.args.book.now l)) (take_all c.loop-index.index c.args.placings.now (omega (arith, c.loop-index-test.false)))

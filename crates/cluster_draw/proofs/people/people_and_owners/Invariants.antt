@@ -1,11 +1,12 @@
-use Rattle.std.proofs.Common.{◌≡◌, ◌≤◌, ◌*◌, length}
+use Rattle.std.proofs.Common.{◌≡◌, ◌≤◌, ◌*◌, length, take}
 use Rattle.house_base.specs.declared.limits.TheConstants.{MOST_OWN}
-use Rattle.cluster_draw.proofs.PeopleLemmas.{people_up_to, owners_up_to}
+use Rattle.house_model.specs.Register.{owners_from}
+use Rattle.cluster_draw.specs.Placings.{names_of, applicants_in}
 use Rattle.cluster_draw.proofs.people.people_and_owners.Given as goal
 
-abbrev pub invariant-loop-person : goal.invariant-loop-person
-invariant-loop-person l = record {
-  people : l.people.items ≡ people_up_to l.book l.person;
-  owners : l.owners.items ≡ owners_up_to l.book l.person;
-  short : length l.people.items ≤ MOST_OWN * l.person;
+abbrev pub invariant-loop-index : goal.invariant-loop-index
+invariant-loop-index l = record {
+  people : l.people.items ≡ applicants_in l.book (take l.index l.placings);
+  owners : l.owners.items ≡ owners_from l.book 0 (names_of l.book (take l.index l.placings));
+  short : length l.people.items ≤ MOST_OWN * l.index;
 }

@@ -1,4 +1,5 @@
 pub mod CapacityLemmas
+pub mod ClosedLemmas
 pub mod CountLemmas
 pub mod DemandLemmas
 pub mod DraftLemmas

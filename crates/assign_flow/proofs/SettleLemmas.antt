@@ -4,7 +4,7 @@ use Rattle.house_model.specs.Counting.{sum_below}
 use Rattle.house_model.specs.Profile.{Pairs}
 use Rattle.house_model.specs.Shortage.{Demand, Places}
 use Rattle.house_model.proofs.CountingLemmas.{one_if, sum_below-same}
-use Rattle.assign_flow.specs.Residual.{Residual}
+use Rattle.assign_flow.specs.Residual.{Residual, IsClosed}
 use Rattle.assign_flow.specs.Reroute.{IsRerouted, IsBlocked}
 use Rattle.assign_flow.proofs.SquareLemmas.{sum_square, sum_square-rows, sum_square-columns, sum_square-same, sum_square-plus, sum_square-each, count_where}
 use Rattle.assign_flow.proofs.DemandLemmas.{Meets}
@@ -52,12 +52,12 @@ pub record AgreeOutside (d : Demand) (free x y : Pairs) : Type 0 where
 abbrev pub free_graph : Demand → Pairs → Pairs → Residual
 free_graph d free x = record { side = d.side; free = free; held = x }
 
--- out of a closed set no pair is gained
-pub blocked-none : (d : Demand) (free x y : Pairs) (r p : ℕ) → Meets d x → Meets d y → AgreeOutside d free x y → IsBlocked (free_graph d free x) r p → r < d.side → p < d.side → x r p ≡ false → y r p ≡ true → ⊥
-blocked-none d free x y r p hx hy agree blocked rl pl wanting holds =
+-- into a closed set no pair is gained, and out of it none is lost
+crossing-none : (d : Demand) (free x y : Pairs) (a b : Places) → Meets d x → Meets d y → AgreeOutside d free x y → IsClosed (free_graph d free x) a b
+    → (sum_square (λ i q. one_if (not (a i) && (b q && (y i q && not (x i q))))) d.side ≡ 0)
+    × (sum_square (λ i q. one_if (a i && (not (b q) && (x i q && not (y i q))))) d.side ≡ 0)
+crossing-none d free x y a b hx hy agree closed =
     let n = d.side in
-    let a = blocked.reviewers in
-    let b = blocked.proposals in
     let bx = λ (i q : ℕ). one_if (b q && x i q) in
     let by = λ (i q : ℕ). one_if (b q && y i q) in
     let ax = λ (i q : ℕ). one_if (a i && x i q) in
@@ -65,19 +65,19 @@ blocked-none d free x y r p hx hy agree blocked rl pl wanting holds =
     let more = λ (i q : ℕ). one_if (not (a i) && (b q && (y i q && not (x i q)))) in
     let less = λ (i q : ℕ). one_if (a i && (not (b q) && (x i q && not (y i q)))) in
     let into : (i q : ℕ) → i < n → q < n → a i ≡ false → b q ≡ true → x i q ≡ true → y i q ≡ true = λ i q il ql out inside held. elim (cases_Bool (free i q)) [
-      | inl open_pair ↦ absurd (both_ways (a i) out (blocked.closed.back i q il ql inside open_pair held))
+      | inl open_pair ↦ absurd (both_ways (a i) out (closed.back i q il ql inside open_pair held))
       | inr fixed ↦ agree.same i q il ql (hx.permitted i q il ql held) fixed ∙ held
     ] in
     let from : (i q : ℕ) → i < n → q < n → a i ≡ true → b q ≡ false → y i q ≡ true → x i q ≡ true = λ i q il ql inside out held. elim (cases_Bool (x i q)) [
       | inl there ↦ there
       | inr missing ↦ elim (cases_Bool (free i q)) [
-        | inl open_pair ↦ absurd (both_ways (b q) out (blocked.closed.forward i q il ql inside open_pair missing))
+        | inl open_pair ↦ absurd (both_ways (b q) out (closed.forward i q il ql inside open_pair missing))
         | inr fixed ↦ sym (agree.same i q il ql (hy.permitted i q il ql held) fixed) ∙ held
       ]
     ] in
     let each = sum_square-same (λ i q. by i q + ax i q) (λ i q. ((bx i q + ay i q) + more i q) + less i q) n
     (λ i q il ql. cross_pair (a i) (b q) (x i q) (y i q) (into i q il ql) (from i q il ql)) in
-    let none : sum_square more n ≡ 0 =
+    let sum : sum_square more n + sum_square less n ≡ 0 =
     omega (
       arith,
       each,
@@ -90,9 +90,29 @@ blocked-none d free x y r p hx hy agree blocked rl pl wanting holds =
       column_sums d b x hx,
       column_sums d b y hy,
     ) in
-    let here = sum_square-each more n r p none rl pl in
-    let counts = ap one_if (and_from (not (a r)) (b p && (y r p && not (x r p))) (ap not blocked.outside) (and_from (b p) (y r p && not (x r p)) blocked.inside (and_from (y r p) (not (x r p)) holds (ap not wanting)))) in
-    omega (arith, here, counts)
+    (omega arith, omega arith)
+
+counted_pair : (a b y x : Bool) → a ≡ true → b ≡ true → y ≡ true → x ≡ false → one_if (a && (b && (y && not x))) ≡ 1
+counted_pair a b y x ha hb hy hx = ap one_if (and_from a (b && (y && not x)) ha (and_from b (y && not x) hb (and_from y (not x) hy (ap not hx))))
+
+pub none-gained : (d : Demand) (free x y : Pairs) (a b : Places) (r p : ℕ) → Meets d x → Meets d y → AgreeOutside d free x y → IsClosed (free_graph d free x) a b → r < d.side → p < d.side
+    → a r ≡ false → b p ≡ true → x r p ≡ false → y r p ≡ true → ⊥
+none-gained d free x y a b r p hx hy agree closed rl pl out inside wanting holds =
+    let none = (crossing-none d free x y a b hx hy agree closed).0 in
+    let here = sum_square-each (λ i q. one_if (not (a i) && (b q && (y i q && not (x i q))))) d.side r p none rl pl in
+    omega (arith, here, counted_pair (not (a r)) (b p) (y r p) (x r p) (ap not out) inside holds wanting)
+
+pub none-lost : (d : Demand) (free x y : Pairs) (a b : Places) (r p : ℕ) → Meets d x → Meets d y → AgreeOutside d free x y → IsClosed (free_graph d free x) a b → r < d.side → p < d.side
+    → a r ≡ true → b p ≡ false → x r p ≡ true → y r p ≡ false → ⊥
+none-lost d free x y a b r p hx hy agree closed rl pl inside out had lacks =
+    let none = (crossing-none d free x y a b hx hy agree closed).1 in
+    let here = sum_square-each (λ i q. one_if (a i && (not (b q) && (x i q && not (y i q))))) d.side r p none rl pl in
+    omega (arith, here, counted_pair (a r) (not (b p)) (x r p) (y r p) inside (ap not out) had lacks)
+
+-- a blocked pair is not gained
+pub blocked-none : (d : Demand) (free x y : Pairs) (r p : ℕ) → Meets d x → Meets d y → AgreeOutside d free x y → IsBlocked (free_graph d free x) r p → r < d.side → p < d.side → x r p ≡ false → y r p ≡ true → ⊥
+blocked-none d free x y r p hx hy agree blocked rl pl =
+    none-gained d free x y blocked.reviewers blocked.proposals r p hx hy agree blocked.closed rl pl blocked.outside blocked.inside
 
 -- pairs that are rerouted among free pairs meet all again
 pub meets-rerouted : (d : Demand) (free x y : Pairs) (r p : ℕ) → Meets d x → ((i q : ℕ) → i < d.side → q < d.side → free i q ≡ true → d.may i q ≡ true) → IsRerouted d.side free x y r p → Meets d y

@@ -250,15 +250,15 @@ goes_on-proposal g t u p r step pl new way = record {
 
 -- What the tests of a search say.
 
-pub next_reviewer-parts : (order : ℕ) (free held : Bool) → (eqb order 0 && (free && held)) ≡ true → (order ≡ 0) × (free ≡ true) × (held ≡ true)
-next_reviewer-parts order free held h =
-    let both = and_parts (eqb order 0) (free && held) h in
-    let pair = and_parts free held both.1 in
+pub next_reviewer-parts : (order : ℕ) (held free : Bool) → (eqb order 0 && (held && free)) ≡ true → (order ≡ 0) × (held ≡ true) × (free ≡ true)
+next_reviewer-parts order held free h =
+    let both = and_parts (eqb order 0) (held && free) h in
+    let pair = and_parts held free both.1 in
     (eqb-true order 0 both.0, pair.0, pair.1)
 
-pub next_reviewer-not : (order : ℕ) (free held : Bool) → (eqb order 0 && (free && held)) ≡ false → free ≡ true → held ≡ true → 0 < order
-next_reviewer-not order free held h f e = elim (cases_eq order 0) [
-  | inl none ↦ absurd (both_ways (eqb order 0 && (free && held)) h (and_from (eqb order 0) (free && held) (eq-eqb order 0 none) (and_from free held f e)))
+pub next_reviewer-not : (order : ℕ) (held free : Bool) → (eqb order 0 && (held && free)) ≡ false → held ≡ true → free ≡ true → 0 < order
+next_reviewer-not order held free h f e = elim (cases_eq order 0) [
+  | inl none ↦ absurd (both_ways (eqb order 0 && (held && free)) h (and_from (eqb order 0) (held && free) (eq-eqb order 0 none) (and_from held free f e)))
   | inr some ↦ omega arith
 ]
 

@@ -1,3 +1,4 @@
+pub mod ClosedSet
 pub mod Draft
 pub mod Flow
 pub mod Reroute

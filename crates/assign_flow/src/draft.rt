@@ -73,7 +73,7 @@ impl Draft {
         self.spare[proposal as usize] -= 1;
     }
 
-    /// Takes for a reviewer what may be taken at once.
+    /// Takes for a reviewer what may be taken at once, the nearest proposals behind it first.
     fn fill_reviewer(&mut self, may: &Grid, reviewer: u32)
         requires side { may.now.side ≡ self.old.held.side }
         requires below { reviewer < may.now.side }
@@ -82,7 +82,9 @@ impl Draft {
             → Drafts may.now need room self.old.held self.old.unmet.items self.old.spare.items
             → Drafts may.now need room self.new.held self.new.unmet.items self.new.spare.items }
     {
-        for proposal in 0..may.side() {
+        let side = may.side();
+        for distance in 0..side {
+            let proposal = (reviewer + 1 + distance) % side;
             if self.can_take(may, reviewer, proposal) {
                 self.take(may, reviewer, proposal);
             }
@@ -129,6 +131,51 @@ impl Draft {
         self.unmet[reviewer as usize] -= 1;
         self.spare[proposal as usize] -= 1;
         true
+    }
+
+    /// Holds one pair more for a reviewer, by exchanging others along an augmenting path. False where there is no such
+    /// path.
+    fn augment_from(&mut self, search: &mut Search, may: &Grid, reviewer: u32) -> bool
+        requires side { may.now.side ≡ self.old.held.side }
+        requires search { vec_len search.old.reviewers ≡ self.old.held.side }
+        requires below { reviewer < may.now.side }
+        requires unmet { 0 < slice_index self.old.unmet.items reviewer }
+        ensures side { self.new.held.side ≡ self.old.held.side }
+        ensures search { vec_len search.new.reviewers ≡ vec_len search.old.reviewers }
+        ensures drafts { (need room : ℕ → ℕ)
+            → Drafts may.now need room self.old.held self.old.unmet.items self.old.spare.items
+            → Drafts may.now need room self.new.held self.new.unmet.items self.new.spare.items }
+        ensures fewer { result ≡ true → sum_below (slice_index self.new.unmet.items) may.now.side
+            < sum_below (slice_index self.old.unmet.items) may.now.side }
+    {
+        let found = search.from_reviewer(may, &self.held, &self.unmet, &self.spare, reviewer);
+        let Some(proposal) = found else {
+            return false;
+        };
+        let End::AtReviewer(reviewer) = walk_back(&mut self.held, search, proposal) else {
+            unreachable!()
+        };
+        self.unmet[reviewer as usize] -= 1;
+        self.spare[proposal as usize] -= 1;
+        true
+    }
+
+    /// Holds pairs for a reviewer until none are wanting to it, or there is no augmenting path from it.
+    pub fn serve(&mut self, search: &mut Search, may: &Grid, reviewer: u32)
+        requires side { may.now.side ≡ self.old.held.side }
+        requires search { vec_len search.old.reviewers ≡ self.old.held.side }
+        requires below { reviewer < may.now.side }
+        ensures side { self.new.held.side ≡ self.old.held.side }
+        ensures search { vec_len search.new.reviewers ≡ vec_len search.old.reviewers }
+        ensures drafts { (need room : ℕ → ℕ)
+            → Drafts may.now need room self.old.held self.old.unmet.items self.old.spare.items
+            → Drafts may.now need room self.new.held self.new.unmet.items self.new.spare.items }
+    {
+        while self.unmet[reviewer as usize] > 0 {
+            if !self.augment_from(search, may, reviewer) {
+                return;
+            }
+        }
     }
 
     /// Whether nothing is wanting to the reviewers.

@@ -7,6 +7,7 @@ ghost use Rattle.house_model.specs.Profile.{Pairs};
 ghost use Rattle.house_model.specs.Shortage.{is_met, IsShortage};
 ghost use Rattle.cut_gap.specs.Cut.{marked, demand_of};
 
+use crate::closed::Closed;
 use crate::reroute::hold;
 use crate::search::Search;
 use crate::solving::{Solved, solve};
@@ -28,6 +29,8 @@ pub struct Flow {
     search: Search,
     /// Room for the search: the proposals that the reviewer at hand can give up.
     spare: Vec<u32>,
+    /// What is known to have no way out: a pair from it to another reviewer cannot be held any more.
+    closed: Closed,
 }
 
 impl Model for Flow {
@@ -35,7 +38,9 @@ impl Model for Flow {
     ghost use Rattle.house_base.specs.Grid.{cell};
     ghost use Rattle.house_model.specs.Shortage.{is_met};
     ghost use Rattle.cut_gap.specs.Cut.{demand_of};
+    ghost use Rattle.assign_flow.specs.ClosedSet.{HasNoWayOut};
     ghost use Rattle.assign_flow.specs.Flow.{FlowParts};
+    ghost use Rattle.assign_flow.specs.Residual.{residual};
 
     ghost Value = { FlowParts };
 
@@ -50,7 +55,8 @@ impl Model for Flow {
     ghost invariant = { λ f. (f.held.side ≡ f.may.side) × (f.free.side ≡ f.may.side)
         × (vec_len f.search.reviewers ≡ f.may.side) × (vec_len f.spare ≡ f.may.side)
         × IsTrue (is_met (demand_of f.need.items f.room.items f.may) (cell f.held))
-        × ((r p : ℕ) → r < f.may.side → p < f.may.side → cell f.free r p ≡ true → cell f.may r p ≡ true) };
+        × ((r p : ℕ) → r < f.may.side → p < f.may.side → cell f.free r p ≡ true → cell f.may r p ≡ true)
+        × (vec_len f.closed.reviewers ≡ f.may.side) × HasNoWayOut (residual f.free f.held) f.closed };
 }
 
 /// A flow, or the shortage where no pairs meet all needs and rooms.
@@ -96,6 +102,7 @@ impl Flow {
                     free: copied(alloc, may)?,
                     search: Search::new(alloc, may.side())?,
                     spare: vec![in alloc; 0; may.side() as usize]?,
+                    closed: Closed::new(alloc, may.side())?,
                 };
                 Ok(Started::Ready(flow))
             }
@@ -135,6 +142,7 @@ impl Flow {
             &self.free,
             &mut self.search,
             &mut self.spare,
+            &mut self.closed,
             reviewer,
             proposal,
         );

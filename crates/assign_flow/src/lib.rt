@@ -2,6 +2,7 @@
 //! pairs that are settled one by one, by rerouting the others.
 #![tactic(auto)]
 
+mod closed;
 mod draft;
 mod flow;
 mod reroute;

@@ -2,9 +2,11 @@
 
 ghost use Rattle.std.specs.Prelude.{◌≡◌, ℕ, ◌<◌, ◌&&◌, true, false, vec_len, length, slice_index, if◌then◌else◌};
 ghost use Rattle.house_base.specs.Grid.{cell};
+ghost use Rattle.assign_flow.specs.ClosedSet.{HasNoWayOut};
 ghost use Rattle.assign_flow.specs.Residual.{residual};
 ghost use Rattle.assign_flow.specs.Reroute.{IsRerouted, IsBlocked};
 
+use crate::closed::Closed;
 use crate::search::Search;
 use crate::walk::walk_back;
 use house_base::Grid;
@@ -24,24 +26,29 @@ fn offer(held: &Grid, free: &Grid, spare: &mut [u32], reviewer: u32)
 }
 
 /// Holds a free pair that is not held, by exchanging free pairs along a closed walk through it. False where there is
-/// none; then the pairs stay.
+/// none; then the pairs stay, and what was reached is taken into the closed set.
 fn reroute(
     held: &mut Grid,
     free: &Grid,
     search: &mut Search,
     spare: &mut [u32],
+    closed: &mut Closed,
     reviewer: u32,
     proposal: u32,
 ) -> bool
     requires free_side { free.now.side ≡ held.old.side }
     requires search_side { vec_len search.old.reviewers ≡ held.old.side }
     requires spare_side { length spare.old ≡ held.old.side }
+    requires closed_side { vec_len closed.old.reviewers ≡ held.old.side }
+    requires closed { HasNoWayOut (residual free.now held.old) closed.old }
     requires reviewer_below { reviewer < held.old.side }
     requires proposal_below { proposal < held.old.side }
     requires free { cell free.now reviewer proposal ≡ true }
     requires new { cell held.old reviewer proposal ≡ false }
     ensures side { held.new.side ≡ held.old.side }
     ensures search_side { vec_len search.new.reviewers ≡ vec_len search.old.reviewers }
+    ensures closed_side { vec_len closed.new.reviewers ≡ vec_len closed.old.reviewers }
+    ensures closed { HasNoWayOut (residual free.now held.old) closed.new }
     ensures rerouted { result ≡ true
         → IsRerouted held.old.side (cell free.now) (cell held.old) (cell held.new) reviewer proposal }
     ensures unchanged { result ≡ false → held.new ≡ held.old }
@@ -49,6 +56,7 @@ fn reroute(
 {
     offer(held, free, spare, reviewer);
     let Some(next) = search.from_proposal(free, held, spare, proposal) else {
+        closed.extend(search, reviewer);
         return false;
     };
     held.set(reviewer, proposal, true);
@@ -64,17 +72,22 @@ pub fn hold(
     free: &Grid,
     search: &mut Search,
     spare: &mut [u32],
+    closed: &mut Closed,
     reviewer: u32,
     proposal: u32,
 ) -> bool
     requires free_side { free.now.side ≡ held.old.side }
     requires search_side { vec_len search.old.reviewers ≡ held.old.side }
     requires spare_side { length spare.old ≡ held.old.side }
+    requires closed_side { vec_len closed.old.reviewers ≡ held.old.side }
+    requires closed { HasNoWayOut (residual free.now held.old) closed.old }
     requires reviewer_below { reviewer < held.old.side }
     requires proposal_below { proposal < held.old.side }
     requires free { cell free.now reviewer proposal ≡ true }
     ensures side { held.new.side ≡ held.old.side }
     ensures search_side { vec_len search.new.reviewers ≡ vec_len search.old.reviewers }
+    ensures closed_side { vec_len closed.new.reviewers ≡ vec_len closed.old.reviewers }
+    ensures closed { HasNoWayOut (residual free.now held.old) closed.new }
     ensures rerouted { result ≡ true
         → IsRerouted held.old.side (cell free.now) (cell held.old) (cell held.new) reviewer proposal }
     ensures unchanged { result ≡ false → held.new ≡ held.old }
@@ -85,5 +98,9 @@ pub fn hold(
     if held.get(reviewer, proposal) {
         return true;
     }
-    reroute(held, free, search, spare, reviewer, proposal)
+    if closed.separates(reviewer, proposal) {
+        false
+    } else {
+        reroute(held, free, search, spare, closed, reviewer, proposal)
+    }
 }

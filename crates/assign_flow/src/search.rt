@@ -38,6 +38,8 @@ pub struct Search {
     pub left: Vec<bool>,
     /// The proposals from which all ways were taken.
     pub given_up: Vec<bool>,
+    /// The proposal that was given up last, in this search or an earlier one.
+    pub last_given_up: usize,
     ghost few: { vec_len reviewers ≤ MOST_APPLICANTS },
     ghost proposals_len: { vec_len proposals ≡ vec_len reviewers },
     ghost left_len: { vec_len left ≡ vec_len reviewers },
@@ -69,6 +71,7 @@ impl Search {
             }; side]?,
             left: vec![in alloc; false; side]?,
             given_up: vec![in alloc; false; side]?,
+            last_given_up: 0,
         })
     }
 
@@ -140,10 +143,10 @@ impl Search {
         requires reviewer_below { reviewer < vec_len self.now.reviewers }
         requires proposal_below { proposal < vec_len self.now.reviewers }
         ensures { result ≡ ((reviewer_mark self.now.reviewers.items reviewer).order == 0
-            && (cell free.now reviewer proposal && cell held.now reviewer proposal)) }
+            && (cell held.now reviewer proposal && cell free.now reviewer proposal)) }
     {
         self.reviewers[reviewer as usize].order == 0
-            && (free.get(reviewer, proposal) && held.get(reviewer, proposal))
+            && (held.get(reviewer, proposal) && free.get(reviewer, proposal))
     }
 
     /// Whether a proposal is not reached yet, and can be from a reviewer.
@@ -237,7 +240,7 @@ impl Search {
         None
     }
 
-    /// A proposal that is reached and was not given up yet.
+    /// A proposal that is reached and was not given up yet, from the one given up last on.
     fn next_proposal(&self) -> Option<u32>
         ensures some { IfSome result (λ p. (p < vec_len self.now.reviewers)
             × ((proposal_mark self.now.proposals.items p).reached ≡ true)
@@ -246,7 +249,25 @@ impl Search {
             → (proposal_mark self.now.proposals.items p).reached ≡ true
             → slice_index_or self.now.given_up.items p false ≡ true) }
     {
-        for i in 0..self.proposals.len() {
+        let count = self.proposals.len();
+        let start = self.last_given_up.min(count);
+        match self.next_proposal_within(start, count) {
+            Some(proposal) => Some(proposal),
+            None => self.next_proposal_within(0, start),
+        }
+    }
+
+    /// A proposal from one place up to another that is reached and was not given up yet.
+    fn next_proposal_within(&self, start: usize, end: usize) -> Option<u32>
+        requires { end ≤ vec_len self.now.reviewers }
+        ensures some { IfSome result (λ p. (p < vec_len self.now.reviewers)
+            × ((proposal_mark self.now.proposals.items p).reached ≡ true)
+            × (slice_index_or self.now.given_up.items p false ≡ false)) }
+        ensures none { IfNone result ((p : ℕ) → start ≤ p → p < end
+            → (proposal_mark self.now.proposals.items p).reached ≡ true
+            → slice_index_or self.now.given_up.items p false ≡ true) }
+    {
+        for i in start..end {
             if self.proposals[i].reached && !self.given_up[i] {
                 return Some(i as u32);
             }
@@ -311,6 +332,7 @@ impl Search {
             let Some(proposal) = self.next_proposal() else {
                 return None;
             };
+            self.last_given_up = proposal as usize;
             self.given_up[proposal as usize] = true;
             self.give_up(free, held, spare, proposal);
         }
@@ -358,6 +380,30 @@ impl Search {
             (wanting unmet.now) nowhere (tree_of self.new)) }
     {
         self.start_from_reviewers(unmet);
+        self.run(free, held, spare)
+    }
+
+    /// Searches from one reviewer to whom pairs are wanting for a proposal that has room.
+    pub fn from_reviewer(
+        &mut self,
+        free: &Grid,
+        held: &Grid,
+        unmet: &[u32],
+        spare: &[u32],
+        reviewer: u32,
+    ) -> Option<u32>
+        requires free { free.now.side ≡ vec_len self.old.reviewers }
+        requires held { held.now.side ≡ vec_len self.old.reviewers }
+        requires spare { length spare.now ≡ vec_len self.old.reviewers }
+        requires below { reviewer < vec_len self.old.reviewers }
+        requires unmet { 0 < slice_index unmet.now reviewer }
+        ensures side { vec_len self.new.reviewers ≡ vec_len self.old.reviewers }
+        ensures grown { IsGrown (residual free.now held.now) (wanting unmet.now) nowhere spare.now
+            (tree_of self.new) }
+        ensures found { IfSome result (HasRoom free.now.side spare.now (tree_of self.new)) }
+    {
+        self.clear();
+        self.reach_reviewer(reviewer, None);
         self.run(free, held, spare)
     }
 

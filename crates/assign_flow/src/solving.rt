@@ -40,6 +40,9 @@ pub fn solve(alloc: Global, need: &[u32], room: &[u32], may: &Grid) -> Result<So
     let mut draft = Draft::new(alloc, need, room, may)?;
     let mut search = Search::new(alloc, may.side())?;
     draft.fill(may);
+    for reviewer in 0..may.side() {
+        draft.serve(&mut search, may, reviewer);
+    }
     while draft.augment(&mut search, may) {}
     if draft.is_complete() {
         return Ok(Solved::Pairs(draft.into_pairs()));

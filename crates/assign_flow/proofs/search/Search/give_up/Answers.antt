@@ -11,7 +11,7 @@ reach_reviewer-requires-clause-few c =
     let s = c.loop-reviewer.self in
     let r = c.loop-reviewer.reviewer in
     let t = tree s.count s.reviewers.items s.proposals.items in
-    let parts = next_reviewer-parts (t.order r) (cell c.args.free.now r c.args.proposal) (cell c.args.held.now r c.args.proposal) (sym c.is_next_reviewer.ensures ∙ c.if-is_next_reviewer.true) in
+    let parts = next_reviewer-parts (t.order r) (cell c.args.held.now r c.args.proposal) (cell c.args.free.now r c.args.proposal) (sym c.is_next_reviewer.ensures ∙ c.if-is_next_reviewer.true) in
     omega (arith, tree-few g t r c.loop-reviewer.invariant.grown (omega arith) parts.0)
 
 pub loop-reviewer-preserved : goal.loop-reviewer-preserved
@@ -25,7 +25,7 @@ loop-reviewer-preserved c =
     let inv = c.loop-reviewer.invariant in
     elim c.if-is_next_reviewer.branch [
       | then-is_next_reviewer w ↦
-          let parts = next_reviewer-parts (t.order r) (cell c.args.free.now r p) (cell c.args.held.now r p) (sym c.is_next_reviewer.ensures ∙ w.if-is_next_reviewer.true) in
+          let parts = next_reviewer-parts (t.order r) (cell c.args.held.now r p) (cell c.args.free.now r p) (sym c.is_next_reviewer.ensures ∙ w.if-is_next_reviewer.true) in
           let n = w.reach_reviewer.new.self in
           let u = tree n.count n.reviewers.items n.proposals.items in
           let step = w.reach_reviewer.ensures.reaches in
@@ -33,8 +33,8 @@ loop-reviewer-preserved c =
           let way : ComesFrom g t r p = record {
             below = omega arith;
             reached = ap (λ xs. (proposal_mark xs p).reached) inv.proposals ∙ c.requires.reached;
-            free = parts.1;
-            held = parts.2;
+            free = parts.2;
+            held = parts.1;
           } in
           let on = goes_on-reviewer g t u r p step below parts.0 way in
           rw w.self-is (record {
@@ -57,6 +57,6 @@ loop-reviewer-preserved c =
             goes_on = inv.goes_on;
             by_full = inv.by_full;
             proposals = inv.proposals;
-            all = below_more _ _ inv.all (next_reviewer-not (t.order r) (cell c.args.free.now r p) (cell c.args.held.now r p) (sym c.is_next_reviewer.ensures ∙ w.if-is_next_reviewer.false));
+            all = below_more _ _ inv.all (λ f h. next_reviewer-not (t.order r) (cell c.args.held.now r p) (cell c.args.free.now r p) (sym c.is_next_reviewer.ensures ∙ w.if-is_next_reviewer.false) h f);
           })
     ]

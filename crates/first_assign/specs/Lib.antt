@@ -1,1 +1,3 @@
 pub mod FirstPlaces
+pub mod First
+pub mod Settling

@@ -2,9 +2,20 @@
 
 #![tactic(auto)]
 
+pub mod answer;
+pub mod computed;
+mod demand;
 pub mod fault;
+mod feasibility;
 pub mod hand_made;
+mod settling;
 mod valid;
 
+pub use answer::First;
+pub use computed::first;
 pub use fault::GivenFault;
+pub use feasibility::shortage;
 pub use hand_made::given;
+
+#[cfg(test)]
+mod tests;

@@ -34,7 +34,8 @@ fn row_is_valid(plan: &Plan, pairs: &Grid, reviewer: u32, received: &mut [u32]) 
     requires each { size plan.now ≤ length received.old }
     requires before { (p : ℕ) → p < size plan.now
         → slice_index received.old p ≡ count_below (λ r. cell pairs.now r p) reviewer }
-    ensures valid { result ≡ (all_below (λ p. not (cell pairs.now reviewer p) || may plan.now reviewer p) (size plan.now)
+    ensures valid { result
+        ≡ (all_below (λ p. not (cell pairs.now reviewer p) || may plan.now reviewer p) (size plan.now)
         && count_below (cell pairs.now reviewer) (size plan.now) == need plan.now reviewer) }
     ensures each { length received.new ≡ length received.old }
     ensures counted { IsTrue result → (p : ℕ) → p < size plan.now

@@ -1,2 +1,5 @@
+mod FilterLemmas
+mod OwnerLemmas
+mod PairLineLemmas
 mod RowLineLemmas
 mod WrittenLemmas

@@ -122,6 +122,13 @@ position_push xs y t new = elim (cases_text y t) [
   ]
 ]
 
+-- what stands at a number is found there, where no two are equal
+pub position_at : (xs : List Text) (i : ℕ) (t : Text) → AllPairs (λ a b. a ≢ b) xs → i < length xs → get_or xs i [] ≡ t
+    → position (bytes_eq t) xs ≡ Some i
+position_at xs i t differ below at =
+    let number : number_in xs t ≡ i = subst (λ x. number_in xs x ≡ i) at (number_in-at xs i differ below) in
+    position_known xs t (omega (arith, number, below)) ∙ ap Some number
+
 -- An index with one name more, and with one less.
 
 pub AllPairs-push_text : (xs : List Text) (y : Text) → AllPairs (λ a b. a ≢ b) xs → among xs y ≡ false → AllPairs (λ a b. a ≢ b) (xs ++ y ∷ [])

@@ -265,6 +265,13 @@ impl Book {
         self.conflicts.has_any(person)
     }
 
+    /// How many persons were put into a cluster.
+    pub fn placed(&self) -> u64
+        ensures { result ≡ length self.now.placed }
+    {
+        self.places.count()
+    }
+
     /// How many pairs of a hand-made assignment there are.
     pub fn pairs(&self) -> u64
         ensures { result ≡ length self.now.pairs }

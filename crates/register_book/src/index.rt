@@ -1,9 +1,10 @@
 //! Names with their numbers.
 
-ghost use Rattle.std.specs.Prelude.{◌≡◌, ◌-◌, ◌<◌, ◌≤◌, Some, false, [], ◌∷◌, ◌++◌, is_some, OnOk, OnErr, length, position, slice_get, take};
+ghost use Rattle.std.specs.Prelude.{◌≡◌, ◌-◌, ◌<◌, ◌≤◌, Some, false, [], ◌∷◌, ◌++◌, is_some, IfSome, OnOk, OnErr, length, position, slice_get, take};
 ghost use Rattle.std.specs.Str.{bytes_eq};
 ghost use Rattle.house_model.specs.Register.{among};
 
+use crate::hints::Hints;
 use house_base::Name;
 use house_base::limits::MOST_APPLICANTS;
 use std::alloc::{AllocError, Global};
@@ -15,6 +16,7 @@ use std::marker::Model;
 pub struct NameIndex {
     names: Vec<Name>,
     numbers: BTreeMap<Name, u32>,
+    hints: Hints,
 }
 
 impl Model for NameIndex {
@@ -36,6 +38,7 @@ impl NameIndex {
         NameIndex {
             names: Vec::new(alloc),
             numbers: BTreeMap::new(alloc),
+            hints: Hints::new(alloc),
         }
     }
 
@@ -60,7 +63,19 @@ impl NameIndex {
         ensures number { result ≡ position (bytes_eq name) self.now }
         ensures known { is_some result ≡ among self.now name }
     {
-        self.numbers.get(&name).copied()
+        match self.hinted(&name) {
+            Some(number) => Some(number),
+            None => self.numbers.get(&name).copied(),
+        }
+    }
+
+    /// The number of a name, where the hint for it is right.
+    fn hinted(&self, name: &Name) -> Option<u32>
+        ensures { IfSome result (λ number. position (bytes_eq name.now) self.now ≡ Some number) }
+    {
+        let number = self.hints.at(name)?;
+        let held = self.names.get(number as usize)?;
+        if *held == *name { Some(number) } else { None }
     }
 
     /// Puts a new name behind the others.
@@ -71,9 +86,11 @@ impl NameIndex {
         ensures refused { OnErr result (self.new ≡ self.old) }
     {
         let number = self.names.len() as u32;
+        self.hints.make_room()?;
         self.names.reserve(1)?;
         self.numbers.insert(name, number)?;
         self.names.push_reserved(name);
+        self.hints.put(&name, number);
         Ok(())
     }
 

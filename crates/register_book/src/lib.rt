@@ -5,6 +5,7 @@
 
 pub mod book;
 pub mod fault;
+mod hints;
 mod index;
 mod pair_list;
 mod places;

@@ -38,6 +38,13 @@ impl Places {
         }
     }
 
+    /// How many places there are.
+    pub fn count(&self) -> u64
+        ensures { result ≡ length self.now.placed }
+    {
+        self.placed.len() as u64
+    }
+
     /// The cluster of the person with a number; 0 where it has none.
     pub fn cluster(&self, person: u32) -> u32
         requires { person < length self.now.clusters }

@@ -25,11 +25,12 @@ pub struct Review {
 }
 
 /// The pairs of an assignment, the points that stand for each, and the places of persons and applicants by name,
-/// so that no line is looked up by a walk over a list.
+/// so that no line is looked up by a walk over a list. Points fit a byte: those of the most applicants take a million
+/// bytes.
 #[derive(Drop)]
 pub struct Desk {
     pairs: Grid,
-    points: Vec<u32>,
+    points: Vec<u8>,
     reviewers: BTreeMap<Name, u32>,
     proposals: BTreeMap<Name, u32>,
 }
@@ -130,7 +131,7 @@ impl Desk {
         ensures proposals { self.new.proposals ≡ self.old.proposals }
     {
         let at = review.reviewer as usize * self.pairs.side() as usize + review.proposal as usize;
-        self.points[at] = review.points;
+        self.points[at] = review.points as u8;
     }
 
     /// The points that stand for a pair: 0 where none were given, or where the pair is not assigned.
@@ -141,7 +142,8 @@ impl Desk {
         ensures most { result ≤ MOST_POINTS }
         ensures assigned { cell self.now.pairs reviewer proposal ≡ false → result ≡ 0 }
     {
-        self.points[reviewer as usize * self.pairs.side() as usize + proposal as usize]
+        let at = reviewer as usize * self.pairs.side() as usize + proposal as usize;
+        u32::from(self.points[at])
     }
 
     /// The pairs of the assignment.

@@ -1,4 +1,4 @@
-use Rattle.std.proofs.Common.{◌≡◌, ◌≢◌, ℕ, suc, ◌+◌, ◌<◌, Bool, true, false, cond, eqb, ltb, List, [], ◌∷◌, ◌++◌, length, map, take, drop, get_or, set, Some, None, refl, sym, ap, subst, ◌∙◌, inl, inr, arith, filter, position, All, AllPairs, ◌≤◌}
+use Rattle.std.proofs.Common.{◌≡◌, ◌≢◌, ℕ, suc, ◌+◌, ◌-◌, ◌%◌, ◌<◌, Bool, true, false, cond, eqb, ltb, List, [], ◌∷◌, ◌++◌, length, map, take, drop, get_or, set, Some, None, refl, sym, ap, subst, ◌∙◌, inl, inr, arith, filter, position, All, AllPairs, ◌≤◌, zero, add-zero, add-suc, append_assoc}
 use Rattle.std.specs.List.{position_or_len, position_from}
 use Rattle.std.specs.Option.{option_map_or}
 use Rattle.std.proofs.lemmas.Bool.{cond-true, cond-false, cases_Bool, cases_eq, ne_eqb, eq-eqb}
@@ -6,10 +6,11 @@ use Rattle.std.proofs.lemmas.List.{get_or-set_same, get_or-set_other, take_more,
 use Rattle.std.proofs.lemmas.List.Elements.{filter-append, All-push}
 use Rattle.house_base.specs.declared.limits.TheConstants.{MOST_POINTS}
 use Rattle.house_model.specs.Counting.{numbers_below}
-use Rattle.house_model.specs.Profile.{row}
 use Rattle.house_model.proofs.CountingLemmas.{numbers_below-add_one}
 use Rattle.std.proofs.lemmas.List.{length-take-le, get_or-take, length-set}
 use Rattle.std.proofs.lemmas.Iterator.Adapters.{position_from-zero}
+use Rattle.std.proofs.Math.Nat.{mod-eq_of_lt, add-mod_left}
+use Rattle.seat_quota.specs.Totals.{among_places, row_among}
 use borrow.Author.Tests.{ltb-true}
 
 -- one more proposal of a row, taken or not
@@ -29,6 +30,74 @@ pub row_skips : (t : ℕ → Bool) (g : ℕ → ℕ) (d y : ℕ) (old new : List
 row_skips t g d y old new h e fail is =
     is ∙ (h ∙ (sym (append-nil (filter t (map g (numbers_below d)))) ∙ (ap (λ ys. filter t (map g (numbers_below d)) ++ ys) (sym (cond-false (t y) (y ∷ []) [] fail))
     ∙ (ap (λ z. filter t (map g (numbers_below d)) ++ filter t (z ∷ [])) e ∙ sym (row_more t g d)))))
+
+-- one more place behind those from one on, taken or not
+pub between_takes : (t : ℕ → Bool) (from y n : ℕ) (front old new : List ℕ) → old ≡ front ++ among_places t from (y - from) → from ≤ y → t y ≡ true → n ≡ y + 1 - from →
+    new ≡ old ++ y ∷ [] → new ≡ front ++ among_places t from n
+between_takes t from y n front old new h l pass many is =
+    let found = among_places t from (y - from) in
+    is ∙ (ap (λ xs. xs ++ y ∷ []) h
+    ∙ (append_assoc front found (y ∷ [])
+    ∙ ap (λ xs. front ++ xs) (row_takes t (λ k. from + k) (y - from) y found (found ++ y ∷ []) refl (let e : y ≡ from + (y - from) = omega arith in e) pass refl
+    ∙ ap (among_places t from) (let e : y - from + 1 ≡ n = omega arith in e))))
+
+pub between_skips : (t : ℕ → Bool) (from y n : ℕ) (front old new : List ℕ) → old ≡ front ++ among_places t from (y - from) → from ≤ y → t y ≡ false → n ≡ y + 1 - from →
+    new ≡ old → new ≡ front ++ among_places t from n
+between_skips t from y n front old new h l fail many is =
+    let found = among_places t from (y - from) in
+    is ∙ (h
+    ∙ ap (λ xs. front ++ xs) (row_skips t (λ k. from + k) (y - from) y found found refl (let e : y ≡ from + (y - from) = omega arith in e) fail refl
+    ∙ ap (among_places t from) (let e : y - from + 1 ≡ n = omega arith in e)))
+
+-- the places round a reviewer are those behind it and those up to it
+
+numbers_below-plus : (a b : ℕ) → numbers_below (a + b) ≡ numbers_below a ++ map (λ k. a + k) (numbers_below b)
+unfolding numbers_below
+numbers_below-plus a zero = ap numbers_below (add-zero a) ∙ sym (append-nil (numbers_below a))
+numbers_below-plus a (suc b) =
+    ap numbers_below (add-suc a b)
+    ∙ (ap (λ xs. xs ++ (a + b) ∷ []) (numbers_below-plus a b)
+    ∙ (append_assoc (numbers_below a) (map (λ k. a + k) (numbers_below b)) ((a + b) ∷ [])
+    ∙ ap (λ xs. numbers_below a ++ xs) (sym (map-append (λ k. a + k) (numbers_below b) (b ∷ [])))))
+
+map-below : (f g : ℕ → ℕ) (n : ℕ) → ((k : ℕ) → k < n → f k ≡ g k) → map f (numbers_below n) ≡ map g (numbers_below n)
+unfolding numbers_below
+map-below f g zero h = refl
+map-below f g (suc n) h =
+    map-append f (numbers_below n) (n ∷ [])
+    ∙ (ap (λ xs. xs ++ f n ∷ []) (map-below f g n (λ k l. h k (omega arith)))
+    ∙ (ap (λ x. map g (numbers_below n) ++ x ∷ []) (h n (omega arith)) ∙ sym (map-append g (numbers_below n) (n ∷ []))))
+
+map-after : (f : ℕ → ℕ) (a n : ℕ) → map f (map (λ k. a + k) (numbers_below n)) ≡ map (λ k. f (a + k)) (numbers_below n)
+unfolding numbers_below
+map-after f a zero = refl
+map-after f a (suc n) =
+    ap (map f) (map-append (λ k. a + k) (numbers_below n) (n ∷ []))
+    ∙ (map-append f (map (λ k. a + k) (numbers_below n)) ((a + n) ∷ [])
+    ∙ (ap (λ xs. xs ++ f (a + n) ∷ []) (map-after f a n) ∙ sym (map-append (λ k. f (a + k)) (numbers_below n) (n ∷ []))))
+
+round_twice : (n r : ℕ) → r < n → map (λ d. (r + 1 + d) % n) (numbers_below n)
+    ≡ map (λ k. r + 1 + k) (numbers_below (n - (r + 1))) ++ map (λ k. 0 + k) (numbers_below (r + 1 - 0))
+round_twice n r l =
+    let a = n - (r + 1) in
+    let g : ℕ → ℕ = λ d. (r + 1 + d) % n in
+    ap (λ m. map g (numbers_below m)) (let e : n ≡ a + (r + 1) = omega arith in e)
+    ∙ (ap (map g) (numbers_below-plus a (r + 1))
+    ∙ (map-append g (numbers_below a) (map (λ k. a + k) (numbers_below (r + 1)))
+    ∙ (ap (λ xs. xs ++ map g (map (λ k. a + k) (numbers_below (r + 1))))
+    (map-below g (λ k. r + 1 + k) a (λ k kl. mod-eq_of_lt {n = r + 1 + k} {m = n} (omega arith)))
+    ∙ ap (λ xs. map (λ k. r + 1 + k) (numbers_below a) ++ xs)
+    (map-after g a (r + 1)
+    ∙ (map-below (λ k. g (a + k)) (λ k. 0 + k) (r + 1)
+    (λ k kl. ap (λ x. x % n) (let e : r + 1 + (a + k) ≡ n + k = omega arith in e)
+    ∙ (add-mod_left n k ∙ (mod-eq_of_lt {n = k} {m = n} (omega arith) ∙ (let e : k ≡ 0 + k = omega arith in e))))
+    ∙ ap (λ m. map (λ k. 0 + k) (numbers_below m)) (let e : r + 1 ≡ r + 1 - 0 = omega arith in e))))))
+
+pub row_twice : (n r : ℕ) (f : ℕ → ℕ → Bool) → r < n → row_among n f r ≡ among_places (f r) (r + 1) (n - (r + 1)) ++ among_places (f r) 0 (r + 1 - 0)
+unfolding row_among
+row_twice n r f l =
+    ap (filter (f r)) (round_twice n r l)
+    ∙ filter-append (f r) (map (λ k. r + 1 + k) (numbers_below (n - (r + 1)))) (map (λ k. 0 + k) (numbers_below (r + 1 - 0)))
 
 -- what a search finds in a list with one more element
 found_other : (c : ℕ → ℕ) (x y k : ℕ) (xs : List ℕ) → eqb y x ≡ false →

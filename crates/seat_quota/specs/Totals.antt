@@ -1,4 +1,4 @@
-use Rattle.std.specs.Prelude.{◌≡◌, ℕ, ◌+◌, ◌*◌, ◌%◌, ◌<◌, ◌≤◌, List, length, map, filter, position, slice_index, All, AllPairs, ◌≢◌, ◌==◌, if◌then◌else◌}
+use Rattle.std.specs.Prelude.{◌≡◌, ℕ, ◌+◌, ◌*◌, ◌%◌, ◌<◌, ◌≤◌, Bool, List, length, map, filter, position, slice_index, All, AllPairs, ◌≢◌, ◌==◌, if◌then◌else◌}
 use Rattle.std.specs.Option.{option_map_or}
 use Rattle.house_base.specs.declared.limits.TheConstants.{DOLLAR, MOST_OWN, MOST_REVIEWS}
 use Rattle.house_base.specs.Setting.{Setting, IsSetting, size, cluster_at}
@@ -31,6 +31,10 @@ pub record IsTotals (f : Profile) (t : Shares) : Type 0 where
 -- the proposals of a reviewer among so many places, in the order of rising distance
 unfoldable pub row_among : ℕ → Pairs → ℕ → List ℕ
 row_among n pairs r = filter (pairs r) (map (λ d. (r + 1 + d) % n) (numbers_below n))
+
+-- of so many places from one on, those that a test takes
+abbrev pub among_places : (ℕ → Bool) → ℕ → ℕ → List ℕ
+among_places test from many = filter test (map (λ k. from + k) (numbers_below many))
 
 -- a row of different proposals that one person may have, as places below a number
 pub record IsRow (n : ℕ) (row : List ℕ) : Type 0 where

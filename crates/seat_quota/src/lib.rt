@@ -3,6 +3,7 @@
 #![tactic(auto)]
 
 pub mod row;
+pub mod rows;
 pub mod tally;
 pub mod totals;
 

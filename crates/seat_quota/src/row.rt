@@ -1,10 +1,10 @@
 //! The proposals of one person, and the cents that they get from it.
 
-ghost use Rattle.std.specs.Prelude.{◌≡◌, ℕ, ◌+◌, ◌%◌, ◌^◌, ◌<◌, ◌≤◌, length, map, slice_index, IfOk};
+ghost use Rattle.std.specs.Prelude.{◌≡◌, ℕ, ◌+◌, ◌-◌, ◌^◌, ◌<◌, ◌≤◌, ◌++◌, length, map, slice_index, IfOk, OnOk};
 ghost use Rattle.house_base.specs.Grid.{cell};
 ghost use Rattle.house_model.specs.Split.{cents_at};
 ghost use Rattle.review_desk.specs.Desk.{points_at};
-ghost use Rattle.seat_quota.specs.Totals.{IsRow, found_in, row_among};
+ghost use Rattle.seat_quota.specs.Totals.{IsRow, among_places, found_in, row_among};
 
 use dollar_split::split;
 use house_base::limits::{MOST_OWN, MOST_REVIEWS};
@@ -15,28 +15,38 @@ use std::alloc::Global;
 /// The most proposals of one person.
 pub(crate) const MOST_ROW: usize = MOST_REVIEWS as usize * MOST_OWN as usize;
 
-/// The proposals of a person, in the order of rising distance.
+/// The proposals of a person, in the order of rising distance: those behind it, and round the end those before it.
 pub(crate) fn row(alloc: Global, pairs: &Grid, reviewer: u32) -> Result<Vec<u32>, Memory>
     requires { reviewer < pairs.now.side }
     ensures { IfOk result (λ proposals. proposals.items ≡ row_among pairs.now.side (cell pairs.now) reviewer) }
 {
     let side = pairs.side();
     let mut row = Vec::new(alloc);
-    for distance in 0..side {
-        let proposal = place_on_round(reviewer + 1 + distance, side);
+    push_between(&mut row, pairs, reviewer, reviewer + 1, side)?;
+    push_between(&mut row, pairs, reviewer, 0, reviewer + 1)?;
+    Ok(row)
+}
+
+/// Puts the proposals of a person from one place up to another behind a row.
+fn push_between(
+    row: &mut Vec<u32>,
+    pairs: &Grid,
+    reviewer: u32,
+    from: u32,
+    to: u32,
+) -> Result<(), Memory>
+    requires reviewer { reviewer < pairs.now.side }
+    requires from { from ≤ to }
+    requires to { to ≤ pairs.now.side }
+    ensures { OnOk result
+        (row.new.items ≡ row.old.items ++ among_places (cell pairs.now reviewer) from (to - from)) }
+{
+    for proposal in from..to {
         if pairs.get(reviewer, proposal) {
             row.push(proposal)?;
         }
     }
-    Ok(row)
-}
-
-/// The place at which a step behind the last place goes on from the first. No division: a call has a million steps.
-fn place_on_round(step: u32, side: u32) -> u32
-    requires { step < side + side }
-    ensures { result ≡ step % side }
-{
-    if step < side { step } else { step - side }
+    Ok(())
 }
 
 /// The cents that a person gives the proposals of its row, in their order; none where it has none.

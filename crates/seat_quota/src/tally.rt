@@ -1,18 +1,18 @@
 //! A desk with its totals, which follow each review.
 
-ghost use Rattle.std.specs.Prelude.{◌≡◌, ℕ, ◌<◌, ◌≤◌, [], IsTrue, IfOk, length, map, get_or, slice_index, ◌==◌, ◌&&◌, if◌then◌else◌};
+ghost use Rattle.std.specs.Prelude.{◌≡◌, ℕ, ◌<◌, ◌≤◌, IsTrue, IfOk, slice_index, ◌==◌, ◌&&◌, if◌then◌else◌};
 ghost use Rattle.house_base.specs.Grid.{cell};
 ghost use Rattle.house_base.specs.Setting.{size};
 ghost use Rattle.house_base.specs.declared.answer.Kind.{Kind};
 ghost use Rattle.house_base.specs.declared.answer.Took.TheVariants.{Aside};
-ghost use Rattle.house_model.specs.Counting.{numbers_below, sum_below};
+ghost use Rattle.house_model.specs.Counting.{sum_below};
 ghost use Rattle.house_model.specs.Profile.{is_valid};
-ghost use Rattle.review_desk.specs.Desk.{IsSetUp, points_at};
+ghost use Rattle.review_desk.specs.Desk.{points_at};
 ghost use Rattle.review_desk.specs.Line.{kind_among, took_as, points_after};
-ghost use Rattle.seat_quota.specs.Tally.{IsGiven, IsTally, row_at};
-ghost use Rattle.seat_quota.specs.Totals.{row_among};
+ghost use Rattle.seat_quota.specs.Tally.{IsTally};
 
-use crate::row::{MOST_ROW, row, row_cents};
+use crate::row::{MOST_ROW, row_cents};
+use crate::rows::{cents, rows};
 use crate::totals::Totals;
 use house_base::limits::MOST_POINTS;
 use house_base::{Grid, Memory, Plan, ReviewLine, Took};
@@ -55,8 +55,8 @@ impl Tally {
     {
         let rows = rows(alloc, &pairs)?;
         let desk = Desk::set_up(alloc, plan, pairs)?;
-        let totals = Totals::of(alloc, plan, &desk)?;
         let cents = cents(alloc, plan, &desk, &rows)?;
+        let totals = Totals::of_rows(alloc, plan, &desk, &rows, &cents)?;
         Ok(Tally {
             desk,
             totals,
@@ -70,7 +70,8 @@ impl Tally {
         requires set_up { IsTally plan.now self.old }
         ensures took { result ≡ took_as (kind_among plan.now (cell self.old.desk.pairs) line.now) }
         ensures points { (r p : ℕ) → r < size plan.now → p < size plan.now →
-            points_at self.new.desk r p ≡ points_after plan.now (cell self.old.desk.pairs) (points_at self.old.desk) line.now r p }
+            points_at self.new.desk r p
+            ≡ points_after plan.now (cell self.old.desk.pairs) (points_at self.old.desk) line.now r p }
         ensures pairs { self.new.desk.pairs ≡ self.old.desk.pairs }
         ensures aside { (kind : Kind) → result ≡ Aside kind → self.new ≡ self.old }
         ensures set_up { IsTally plan.now self.new }
@@ -118,36 +119,4 @@ impl Tally {
     {
         &self.totals
     }
-}
-
-/// The proposals of each person, by its place, in the order of rising distance.
-fn rows(alloc: Global, pairs: &Grid) -> Result<Vec<Vec<u32>>, Memory>
-    ensures { IfOk result (λ rows. map (λ row. row.items) rows.items
-        ≡ map (row_among pairs.now.side (cell pairs.now)) (numbers_below pairs.now.side)) }
-{
-    let mut rows = Vec::new(alloc);
-    for reviewer in 0..pairs.side() {
-        rows.push(row(alloc, pairs, reviewer)?)?;
-    }
-    Ok(rows)
-}
-
-/// The cents that each person gives the proposals of its row, by its place.
-fn cents(
-    alloc: Global,
-    plan: &Plan,
-    desk: &Desk,
-    rows: &[Vec<u32>],
-) -> Result<Vec<[u32; MOST_ROW]>, Memory>
-    requires desk { IsSetUp plan.now desk.now }
-    requires rows { map (λ row. row.items) rows.now ≡ map (row_at desk.now) (numbers_below desk.now.pairs.side) }
-    ensures each { IfOk result (λ cents. length cents.items ≡ desk.now.pairs.side) }
-    ensures given { IfOk result (λ cents. (r : ℕ) → r < desk.now.pairs.side →
-        IsGiven desk.now r (get_or cents.items r [])) }
-{
-    let mut cents = Vec::new(alloc);
-    for reviewer in 0..plan.count() {
-        cents.push(row_cents(desk, reviewer, &rows[reviewer as usize]))?;
-    }
-    Ok(cents)
 }

@@ -1,13 +1,15 @@
 //! The totals of a desk, added up whole.
 
-ghost use Rattle.std.specs.Prelude.{◌≡◌, ℕ, ◌+◌, ◌-◌, ◌*◌, ◌<◌, ◌≤◌, ◌≢◌, replicate, length, slice_index, IfOk, OnOk};
+ghost use Rattle.std.specs.Prelude.{◌≡◌, ℕ, ◌+◌, ◌-◌, ◌*◌, ◌<◌, ◌≤◌, ◌≢◌, replicate, length, map, slice_index, IfOk};
 ghost use Rattle.house_base.specs.Setting.{IsSetting, size};
 ghost use Rattle.house_model.specs.Counting.{sum_below};
-ghost use Rattle.house_model.specs.Profile.{cents, score};
+ghost use Rattle.house_model.specs.Profile.{score};
 ghost use Rattle.review_desk.specs.Desk.{IsSetUp, desk_profile};
+ghost use Rattle.seat_quota.specs.Tally.{HoldsRows};
 ghost use Rattle.seat_quota.specs.Totals.{HoldsTotals, IsExchange, IsSummed, IsTotals, cluster_sum, found_in};
 
-use crate::row::{give, row, row_cents};
+use crate::row::{MOST_ROW, give};
+use crate::rows::{cents, rows};
 use house_base::limits::DOLLAR;
 use house_base::{Memory, Plan};
 use review_desk::Desk;
@@ -23,6 +25,7 @@ pub struct Totals {
 }
 
 impl Model for Totals {
+    ghost use Rattle.seat_quota.specs.Tally.{HoldsRows};
     ghost use Rattle.seat_quota.specs.Totals.{Shares};
 
     ghost Value = { Shares };
@@ -38,7 +41,26 @@ impl Totals {
         ensures value { IfOk result (λ totals. IsTotals (desk_profile plan.now desk.now) totals) }
         ensures whole { IfOk result (λ totals. sum_below (slice_index totals.clusters) plan.now.clusters ≡ totals.den) }
     {
-        let scores = scores(alloc, plan, desk)?;
+        let rows = rows(alloc, desk.grid())?;
+        let cents = cents(alloc, plan, desk, &rows)?;
+        Totals::of_rows(alloc, plan, desk, &rows, &cents)
+    }
+
+    /// The totals of the points that stand at a desk, from the rows of all persons and the cents that they give.
+    pub(crate) fn of_rows(
+        alloc: Global,
+        plan: &Plan,
+        desk: &Desk,
+        rows: &[Vec<u32>],
+        cents: &[[u32; MOST_ROW]],
+    ) -> Result<Totals, Memory>
+        requires desk { IsSetUp plan.now desk.now }
+        requires rows { HoldsRows desk.now (map (λ row. row.items) rows.now) cents.now }
+        ensures held { IfOk result (λ totals. HoldsTotals plan.now totals) }
+        ensures value { IfOk result (λ totals. IsTotals (desk_profile plan.now desk.now) totals) }
+        ensures whole { IfOk result (λ totals. sum_below (slice_index totals.clusters) plan.now.clusters ≡ totals.den) }
+    {
+        let scores = scores(alloc, plan, desk, rows, cents)?;
         let clusters = cluster_sums(alloc, plan, &scores)?;
         Ok(Totals {
             scores,
@@ -115,16 +137,24 @@ fn zeros(alloc: Global, count: u32) -> Result<Vec<u64>, Memory>
     Ok(xs)
 }
 
-/// The scores of all applicants, by place.
-fn scores(alloc: Global, plan: &Plan, desk: &Desk) -> Result<Vec<u64>, Memory>
+/// The scores of all applicants, by place: what the persons give along their rows.
+fn scores(
+    alloc: Global,
+    plan: &Plan,
+    desk: &Desk,
+    rows: &[Vec<u32>],
+    cents: &[[u32; MOST_ROW]],
+) -> Result<Vec<u64>, Memory>
     requires desk { IsSetUp plan.now desk.now }
+    requires rows { HoldsRows desk.now (map (λ row. row.items) rows.now) cents.now }
     ensures len { IfOk result (λ scores. length scores.items ≡ size plan.now) }
     ensures value { IfOk result (λ scores. (p : ℕ) → p < size plan.now →
         slice_index scores.items p ≡ score (desk_profile plan.now desk.now) p) }
 {
     let mut scores = zeros(alloc, plan.count())?;
-    for reviewer in 0..plan.count() {
-        share_out(alloc, plan, desk, reviewer, &mut scores)?;
+    for reviewer in 0..desk.grid().side() {
+        let at = reviewer as usize;
+        give(&rows[at], &cents[at], &mut scores);
     }
     Ok(scores)
 }
@@ -143,25 +173,4 @@ fn cluster_sums(alloc: Global, plan: &Plan, scores: &[u64]) -> Result<Vec<u64>, 
         sums[cluster] += scores[place as usize];
     }
     Ok(sums)
-}
-
-/// Adds the cents that a person gives to the scores of its proposals.
-fn share_out(
-    alloc: Global,
-    plan: &Plan,
-    desk: &Desk,
-    reviewer: u32,
-    scores: &mut [u64],
-) -> Result<(), Memory>
-    requires desk { IsSetUp plan.now desk.now }
-    requires reviewer { reviewer < size plan.now }
-    requires len { length scores.old ≡ size plan.now }
-    requires most { (p : ℕ) → p < size plan.now → slice_index scores.old p ≤ size plan.now * DOLLAR }
-    ensures { OnOk result ((p : ℕ) → p < size plan.now →
-        slice_index scores.new p ≡ slice_index scores.old p + cents (desk_profile plan.now desk.now) reviewer p) }
-{
-    let row = row(alloc, desk.grid(), reviewer)?;
-    let cents = row_cents(desk, reviewer, &row);
-    give(&row, &cents, scores);
-    Ok(())
 }

@@ -2,7 +2,7 @@ use Rattle.std.proofs.Common.{◌≡◌, map}
 use Rattle.house_base.specs.Grid.{cell}
 use Rattle.house_model.specs.Counting.{numbers_below}
 use Rattle.seat_quota.specs.Totals.{row_among}
-use Rattle.seat_quota.proofs.tally.rows.Given as goal
+use Rattle.seat_quota.proofs.rows.rows.Given as goal
 
 -- the rows of the persons so far
 abbrev pub invariant-loop-reviewer : goal.invariant-loop-reviewer

@@ -3,7 +3,7 @@ use Rattle.house_base.specs.Grid.{cell}
 use Rattle.house_model.specs.Counting.{numbers_below}
 use Rattle.seat_quota.specs.Totals.{row_among}
 use Rattle.seat_quota.proofs.TallyLemmas.{rows_more}
-use Rattle.seat_quota.proofs.tally.rows.Goals as goal
+use Rattle.seat_quota.proofs.rows.rows.Goals as goal
 
 pub loop-reviewer-init : goal.loop-reviewer-init
 unfolding numbers_below

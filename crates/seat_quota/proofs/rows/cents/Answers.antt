@@ -3,7 +3,7 @@ use Rattle.std.proofs.lemmas.List.{length_push}
 use Rattle.seat_quota.specs.Tally.{row_at}
 use Rattle.seat_quota.specs.Totals.{IsRow}
 use Rattle.seat_quota.proofs.TallyLemmas.{length-rows, own-row, given-along, given_more}
-use Rattle.seat_quota.proofs.tally.cents.Goals as goal
+use Rattle.seat_quota.proofs.rows.cents.Goals as goal
 
 pub bounds-rows-reviewer : goal.bounds-rows-reviewer
 bounds-rows-reviewer c =

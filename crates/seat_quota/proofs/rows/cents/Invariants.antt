@@ -1,6 +1,6 @@
 use Rattle.std.proofs.Common.{◌≡◌, ℕ, ◌<◌, [], length, get_or}
 use Rattle.seat_quota.specs.Tally.{IsGiven}
-use Rattle.seat_quota.proofs.tally.cents.Given as goal
+use Rattle.seat_quota.proofs.rows.cents.Given as goal
 
 -- the cents of the places so far
 abbrev pub invariant-loop-reviewer : goal.invariant-loop-reviewer

@@ -2,7 +2,7 @@ use Rattle.std.proofs.Common.{◌≡◌, ℕ, ◌+◌, ◌*◌, ◌<◌, get_or,
 use Rattle.review_desk.specs.Desk.{desk_profile}
 use Rattle.house_model.specs.Profile.{denominator}
 use Rattle.seat_quota.proofs.TotalLemmas.{score-most, cluster_cents-from, clusters-whole}
-use Rattle.seat_quota.proofs.totals.Totals.of.Goals as goal
+use Rattle.seat_quota.proofs.totals.Totals.of_rows.Goals as goal
 
 pub cluster_sums-requires-clause-most : goal.cluster_sums-requires-clause-most
 cluster_sums-requires-clause-most c =

@@ -1,21 +1,24 @@
 -- What may come after the lines, by the state.
-use Rattle.std.proofs.Common.{◌≡◌, ℕ, ◌≤◌, Bool, true, false, eqb, Option, Some, None, refl, sym, ◌∙◌}
-use Rattle.std.specs.Prelude.{is_some, MatchOption, not, ◌||◌, ◌&&◌}
+use Rattle.std.proofs.Common.{◌≡◌, ℕ, ◌≤◌, Bool, true, false, eqb, Option, Some, None, length, refl, sym, ap, ◌∙◌}
+use Rattle.std.specs.Prelude.{is_some, MatchOption, not, ◌||◌}
 use Rattle.std.proofs.lemmas.Bool.{true≢false}
 use Rattle.house_base.specs.declared.call.Call.{Call}
 use Rattle.house_base.specs.declared.limits.TheConstants.{MOST_CLUSTERS}
 use Rattle.house_base.specs.declared.answer.Reason.{Reason}
-use Rattle.house_model.specs.declared.goal.Goal.TheVariants as goal
+use Rattle.house_model.specs.declared.goal.Goal.{Goal}
 use Rattle.house_model.specs.declared.verb.Verb.{Verb}
 use Rattle.house_model.specs.declared.verb.Verb.TheVariants as verb
+use Rattle.house_model.specs.Ending.{Halt}
 use Rattle.house_model.specs.Text.{Text, Lines}
 use Rattle.house_model.specs.Verbs.{allows, verb_in, verb_number, is_house}
+use Rattle.house_model.specs.Register.{Register}
 use Rattle.house_model.specs.Said.{has, phase_after, seats_of, clusters_of, reviews_of}
-use Rattle.house_model.specs.Faults.{comes_again}
-use Rattle.house_model.specs.Transitional.{awaits, refusal}
+use Rattle.house_model.specs.Faults.{fault, comes_again}
+use Rattle.house_model.specs.Runs.{halt}
 use Rattle.house_core.specs.declared.state.State.{State}
-use Rattle.house_core.specs.Standing.{Says, turned_away, is_call}
-use Rattle.house_core.proofs.RefusalLemmas.{lacks, is_wrong_turn, answer_by, said_of, house_refusal}
+use Rattle.house_core.specs.Standing.{Says, turned_away, is_call, comes_again_in}
+use Rattle.house_core.proofs.PushLemmas.{seed_came, seal_came, placed_came}
+use Rattle.house_core.proofs.RefusalLemmas.{lacks, is_wrong_turn, answer_by, said_of, house_fault_is, fault_halts}
 
 -- whether there was a call
 called : (has_call : Bool) (S C R : ℕ) (call : Option Call) →
@@ -40,67 +43,74 @@ call_is verb.Draw = refl
 call_is verb.Lottery = refl
 call_is verb.Other = refl
 
--- what comes again, where the clusters are not drawn
-again : (lines : Lines) (v : Verb) → has verb.Partition lines ≡ false → awaits v ≡ false → (is_call v && has verb.Call lines) ≡ comes_again lines v
-again lines verb.Call p a = refl
-again lines verb.Applicant p a = refl
-again lines verb.Conflict p a = refl
-again lines verb.Place p a = sym p
-again lines verb.Partition p a = cc
-again lines verb.Pair p a = refl
-again lines verb.Seal p a = cc
-again lines verb.Assign p a = refl
-again lines verb.Close p a = refl
-again lines verb.Draw p a = refl
-again lines verb.Lottery p a = cc
-again lines verb.Other p a = refl
+-- what came, as the state has it
+pub seed_in : (lines : Lines) (s : State) → Says lines s → is_some s.seed ≡ has verb.Partition lines
+seed_in lines s h = ap is_some h.seed ∙ seed_came lines
 
--- what is answered, where the turn counts only for what does not wait
-by_turn : (awaited lacking turn wrong : Bool) (rest : Option Reason) → (awaited ≡ false → turn ≡ wrong) → answer_by awaited lacking turn rest ≡ answer_by awaited lacking wrong rest
-by_turn true lacking turn wrong rest h = refl
-by_turn false true turn wrong rest h = refl
-by_turn false false turn wrong rest h = rw (h refl) refl
+pub seal_in : (lines : Lines) (s : State) → Says lines s → is_some s.seal ≡ has verb.Seal lines
+seal_in lines s h = ap is_some h.seal ∙ seal_came lines
+
+not_not : (b : Bool) → not (not b) ≡ b
+not_not true = refl
+not_not false = refl
+
+placed_in : (lines : Lines) (s : State) → Says lines s → not (eqb (length s.book.placed) 0) ≡ has verb.Place lines
+placed_in lines s h =
+    ap (λ (reg : Register). not (eqb (length reg.placed) 0)) h.book.others ∙ (ap not (placed_came lines) ∙ not_not (has verb.Place lines))
+
+-- what comes again
+again : (lines : Lines) (s : State) (v : Verb) → Says lines s → comes_again_in s v ≡ comes_again lines v
+again lines s verb.Call h = call_came lines s h
+again lines s verb.Applicant h = refl
+again lines s verb.Conflict h = refl
+again lines s verb.Place h = seed_in lines s h
+again lines s verb.Partition h = ap (λ b. b || is_some s.seed) (placed_in lines s h) ∙ ap (λ b. has verb.Place lines || b) (seed_in lines s h)
+again lines s verb.Pair h = refl
+again lines s verb.Seal h = seal_in lines s h
+again lines s verb.Assign h = refl
+again lines s verb.Close h = refl
+again lines s verb.Draw h = refl
+again lines s verb.Lottery h = refl
+again lines s verb.Other h = refl
 
 -- whether a command may come, by the tests of the lines
-turned_by_tests : (lines : Lines) (s : State) (v : Verb) → Says lines s → turned_away s v ≡ answer_by (awaits v) (lacks lines v) (is_wrong_turn lines v) None
+turned_by_tests : (lines : Lines) (s : State) (v : Verb) → Says lines s → turned_away s v ≡ answer_by (lacks lines v) (is_wrong_turn lines v) None
 turned_by_tests lines s v h =
-    rw (call_came lines s h, h.phase)
-    (rw (call_is v) (by_turn (awaits v) (lacks lines v) (not (allows (phase_after lines) v) || (eqb (verb_number v) 0 && has verb.Call lines)) (is_wrong_turn lines v) None
-    (λ a. rw (← call_is v, again lines v h.no_partition a) refl)))
+    ap (λ b. answer_by (not (b || is_call v)) (not (allows s.phase v) || comes_again_in s v) None) (call_came lines s h)
+    ∙ (ap (λ b. answer_by (not (has verb.Call lines || b)) (not (allows s.phase v) || comes_again_in s v) None) (call_is v)
+    ∙ (ap (λ p. answer_by (lacks lines v) (not (allows p v) || comes_again_in s v) None) h.phase
+    ∙ ap (λ b. answer_by (lacks lines v) (not (allows (phase_after lines) v) || b) None) (again lines s v h)))
 
-turned_so : (a l o : Bool) (rest : Option Reason) (r : Reason) → answer_by a l o None ≡ Some r → answer_by a l o rest ≡ Some r
-turned_so true l o rest r h = h
-turned_so false true o rest r h = h
-turned_so false false true rest r h = h
-turned_so false false false rest r h = cc
+turned_so : (l o : Bool) (rest : Option Reason) (r : Reason) → answer_by l o None ≡ Some r → answer_by l o rest ≡ Some r
+turned_so true o rest r h = h
+turned_so false true rest r h = h
+turned_so false false rest r h = cc
 
 -- a command that may not come is refused for the same reason
-pub turned_refuses : (lines : Lines) (s : State) (x : Text) (v : Verb) (r : Reason) → Says lines s → is_house x ≡ true → verb_in x ≡ v →
-    turned_away s v ≡ Some r → refusal goal.Run lines x ≡ Some r
-turned_refuses lines s x v r h house is e =
-    house_refusal lines x v house is
-    ∙ turned_so (awaits v) (lacks lines v) (is_wrong_turn lines v) (said_of lines v x) r (sym (turned_by_tests lines s v h) ∙ e)
+pub turned_refuses : (g : Goal) (lines : Lines) (s : State) (x : Text) (v : Verb) (r : Reason) → Says lines s → is_house x ≡ true → verb_in x ≡ v →
+    turned_away s v ≡ Some r → halt g lines x ≡ Some (Halt.Refused r)
+turned_refuses g lines s x v r h house is e =
+    fault_halts g lines x r (house_fault_is g lines x v house is
+    ∙ turned_so (lacks lines v) (is_wrong_turn lines v) (said_of g lines v x) r (sym (turned_by_tests lines s v h) ∙ e))
 
 -- a command that may come
 pub record IsAdmitted (lines : Lines) (v : Verb) : Type 0 where
-  pub at_once : awaits v ≡ false
   pub called : lacks lines v ≡ false
   pub in_turn : is_wrong_turn lines v ≡ false
 
-admits : (a l o : Bool) → answer_by a l o None ≡ None → (a ≡ false) × (l ≡ false) × (o ≡ false)
-admits true l o h = cc
-admits false true o h = cc
-admits false false true h = cc
-admits false false false h = (refl, refl, refl)
+admits : (l o : Bool) → answer_by l o None ≡ None → (l ≡ false) × (o ≡ false)
+admits true o h = cc
+admits false true h = cc
+admits false false h = (refl, refl)
 
 pub is_admitted : (lines : Lines) (s : State) (v : Verb) → Says lines s → turned_away s v ≡ None → IsAdmitted lines v
 is_admitted lines s v h e =
-    let parts = admits (awaits v) (lacks lines v) (is_wrong_turn lines v) (sym (turned_by_tests lines s v h) ∙ e) in
-    record { at_once = parts.0; called = parts.1; in_turn = parts.2 }
+    let parts = admits (lacks lines v) (is_wrong_turn lines v) (sym (turned_by_tests lines s v h) ∙ e) in
+    record { called = parts.0; in_turn = parts.1 }
 
--- what is left of the refusal of such a command
-pub admitted_refusal : (lines : Lines) (x : Text) (v : Verb) → is_house x ≡ true → verb_in x ≡ v → IsAdmitted lines v → refusal goal.Run lines x ≡ said_of lines v x
-admitted_refusal lines x v house is h = house_refusal lines x v house is ∙ rw (h.at_once, h.called, h.in_turn) refl
+-- what is left of the fault of such a command
+pub admitted_fault : (g : Goal) (lines : Lines) (x : Text) (v : Verb) → is_house x ≡ true → verb_in x ≡ v → IsAdmitted lines v → fault g lines x ≡ said_of g lines v x
+admitted_fault g lines x v house is h = house_fault_is g lines x v house is ∙ rw (h.called, h.in_turn) refl
 
 -- the numbers of the call
 numbers_by : (b : Bool) (S C R : ℕ) (call : Option Call) → b ≡ true →

@@ -3,12 +3,11 @@ use Rattle.std.specs.Prelude.{is_some}
 use Rattle.std.specs.Option.{option_map_or}
 use Rattle.std.proofs.lemmas.List.{append-nil}
 use Rattle.std.proofs.lemmas.Option.{some_pair_parts}
-use Rattle.house_base.specs.declared.answer.Reason.{Reason}
 use Rattle.house_model.specs.Text.{Text, Lines}
-use Rattle.house_model.specs.Ending.{Rule, stop_after, stop_of, in_force_after, in_force}
+use Rattle.house_model.specs.Ending.{Halt, Rule, stop_after, stop_of, in_force_after, in_force}
 
 -- no stop here or further on
-no_stop : (n : ℕ) (o : Option Reason) (rest : Option (ℕ × Reason)) → option_map_or (λ r. Some (n, r)) o rest ≡ None → (o ≡ None) × (rest ≡ None)
+no_stop : (n : ℕ) (o : Option Halt) (rest : Option (ℕ × Halt)) → option_map_or (λ r. Some (n, r)) o rest ≡ None → (o ≡ None) × (rest ≡ None)
 no_stop n None rest h = (refl, h)
 no_stop n (Some r) rest h = cc
 
@@ -34,14 +33,14 @@ in_force_after_push rule before (y ∷ lines) x h =
     let e = append_assoc before (y ∷ []) lines in
     rw s.0 (ap (λ rest. y ∷ rest) (in_force_after_push rule (before ++ y ∷ []) lines x s.1 ∙ ap (λ all. lines ++ cond (is_some (rule all x)) [] (x ∷ [])) e))
 
-stays : (n : ℕ) (y : Text) (t : ℕ × Reason) (rest more : Option (ℕ × Reason)) (kept grown : Lines) (o : Option Reason) →
+stays : (n : ℕ) (y : Text) (t : ℕ × Halt) (rest more : Option (ℕ × Halt)) (kept grown : Lines) (o : Option Halt) →
     (rest ≡ Some t → (more ≡ Some t) × (grown ≡ kept)) → option_map_or (λ r. Some (n, r)) o rest ≡ Some t →
     (option_map_or (λ r. Some (n, r)) o more ≡ Some t) × (cond (is_some o) [] (y ∷ grown) ≡ cond (is_some o) [] (y ∷ kept))
 stays n y t rest more kept grown None later h = ((later h).0, ap (λ all. y ∷ all) (later h).1)
 stays n y t rest more kept grown (Some r) later h = (h, refl)
 
 -- a stop stays with one more line
-stop_after_stays : (rule : Rule) (before lines : Lines) (x : Text) (t : ℕ × Reason) → stop_after rule before lines ≡ Some t →
+stop_after_stays : (rule : Rule) (before lines : Lines) (x : Text) (t : ℕ × Halt) → stop_after rule before lines ≡ Some t →
     (stop_after rule before (lines ++ x ∷ []) ≡ Some t) × (in_force_after rule before (lines ++ x ∷ []) ≡ in_force_after rule before lines)
 stop_after_stays rule before [] x t h = cc
 stop_after_stays rule before (y ∷ lines) x t h =
@@ -49,13 +48,13 @@ stop_after_stays rule before (y ∷ lines) x t h =
     (in_force_after rule (before ++ y ∷ []) lines) (in_force_after rule (before ++ y ∷ []) (lines ++ x ∷ [])) (rule before y)
     (stop_after_stays rule (before ++ y ∷ []) lines x t) h
 
-numbered : (k n : ℕ) (y : Text) (r : Reason) (rest : Option (ℕ × Reason)) (kept : Lines) (o : Option Reason) →
+numbered : (k n : ℕ) (y : Text) (r : Halt) (rest : Option (ℕ × Halt)) (kept : Lines) (o : Option Halt) →
     (rest ≡ Some (n, r) → (k + 1) + length kept + 1 ≡ n) → option_map_or (λ q. Some (k + 1, q)) o rest ≡ Some (n, r) →
     k + length (cond (is_some o) [] (y ∷ kept)) + 1 ≡ n
 numbered k n y r rest kept None later h = let e = later h in omega arith
 numbered k n y r rest kept (Some q) later h = let e : k + 1 ≡ n = (some_pair_parts (k + 1) n q r h).0 in omega arith
 
-stop_after_number : (rule : Rule) (before lines : Lines) (n : ℕ) (r : Reason) → stop_after rule before lines ≡ Some (n, r) →
+stop_after_number : (rule : Rule) (before lines : Lines) (n : ℕ) (r : Halt) → stop_after rule before lines ≡ Some (n, r) →
     length before + length (in_force_after rule before lines) + 1 ≡ n
 stop_after_number rule before [] n r h = cc
 stop_after_number rule before (y ∷ lines) n r h =
@@ -67,18 +66,18 @@ pub in_force_all : (rule : Rule) (lines : Lines) → stop_of rule lines ≡ None
 unfolding stop_of in_force
 in_force_all rule lines h = in_force_after_all rule [] lines h
 
--- one more line, which is refused
-pub stop_at : (rule : Rule) (lines : Lines) (x : Text) (r : Reason) → stop_of rule lines ≡ None → rule lines x ≡ Some r →
+-- one more line, which ends the run
+pub stop_at : (rule : Rule) (lines : Lines) (x : Text) (r : Halt) → stop_of rule lines ≡ None → rule lines x ≡ Some r →
     stop_of rule (lines ++ x ∷ []) ≡ Some (length lines + 1, r)
 unfolding stop_of
 stop_at rule lines x r h e = stop_after_push rule [] lines x h ∙ ap (λ o. option_map_or (λ q. Some (length lines + 1, q)) o None) e
 
-pub in_force_at : (rule : Rule) (lines : Lines) (x : Text) (r : Reason) → stop_of rule lines ≡ None → rule lines x ≡ Some r →
+pub in_force_at : (rule : Rule) (lines : Lines) (x : Text) (r : Halt) → stop_of rule lines ≡ None → rule lines x ≡ Some r →
     in_force rule (lines ++ x ∷ []) ≡ lines
 unfolding stop_of in_force
 in_force_at rule lines x r h e = in_force_after_push rule [] lines x h ∙ ap (λ o. lines ++ cond (is_some o) [] (x ∷ [])) e ∙ append-nil lines
 
--- one more line, which is not refused
+-- one more line, which does not
 pub stop_none : (rule : Rule) (lines : Lines) (x : Text) → stop_of rule lines ≡ None → rule lines x ≡ None →
     stop_of rule (lines ++ x ∷ []) ≡ None
 unfolding stop_of
@@ -90,34 +89,34 @@ unfolding stop_of in_force
 in_force_more rule lines x h e = in_force_after_push rule [] lines x h ∙ ap (λ o. lines ++ cond (is_some o) [] (x ∷ [])) e
 
 -- behind a stop nothing changes
-pub stop_stays : (rule : Rule) (lines : Lines) (x : Text) (t : ℕ × Reason) → stop_of rule lines ≡ Some t →
+pub stop_stays : (rule : Rule) (lines : Lines) (x : Text) (t : ℕ × Halt) → stop_of rule lines ≡ Some t →
     stop_of rule (lines ++ x ∷ []) ≡ Some t
 unfolding stop_of
 stop_stays rule lines x t h = (stop_after_stays rule [] lines x t h).0
 
-pub in_force_stays : (rule : Rule) (lines : Lines) (x : Text) (t : ℕ × Reason) → stop_of rule lines ≡ Some t →
+pub in_force_stays : (rule : Rule) (lines : Lines) (x : Text) (t : ℕ × Halt) → stop_of rule lines ≡ Some t →
     in_force rule (lines ++ x ∷ []) ≡ in_force rule lines
 unfolding stop_of in_force
 in_force_stays rule lines x t h = (stop_after_stays rule [] lines x t h).1
 
 -- a stop comes one line behind those in force
-pub stop_number : (rule : Rule) (lines : Lines) (n : ℕ) (r : Reason) → stop_of rule lines ≡ Some (n, r) → length (in_force rule lines) + 1 ≡ n
+pub stop_number : (rule : Rule) (lines : Lines) (n : ℕ) (r : Halt) → stop_of rule lines ≡ Some (n, r) → length (in_force rule lines) + 1 ≡ n
 unfolding stop_of in_force
 stop_number rule lines n r h = let e = stop_after_number rule [] lines n r h in omega arith
 
-stops_short : (o : Option Reason) (n : ℕ) (line : Text) (lines rest : Lines) (later : Option (ℕ × Reason)) (t : ℕ × Reason) →
+stops_short : (o : Option Halt) (n : ℕ) (line : Text) (lines rest : Lines) (later : Option (ℕ × Halt)) (t : ℕ × Halt) →
     (later ≡ Some t → length rest + 1 ≤ length lines) → option_map_or (λ q. Some (n, q)) o later ≡ Some t →
     length (cond (is_some o) [] (line ∷ rest)) + 1 ≤ length (line ∷ lines)
 stops_short None n line lines rest later t shorter h = let k = shorter h in omega arith
 stops_short (Some r) n line lines rest later t shorter h = omega arith
 
-in_force_after-le : (rule : Rule) (before lines : Lines) (t : ℕ × Reason) → stop_after rule before lines ≡ Some t → length (in_force_after rule before lines) + 1 ≤ length lines
+in_force_after-le : (rule : Rule) (before lines : Lines) (t : ℕ × Halt) → stop_after rule before lines ≡ Some t → length (in_force_after rule before lines) + 1 ≤ length lines
 in_force_after-le rule before [] t h = cc
 in_force_after-le rule before (line ∷ lines) t h =
     stops_short (rule before line) (length before + 1) line lines (in_force_after rule (before ++ line ∷ []) lines) (stop_after rule (before ++ line ∷ []) lines) t
     (λ e. in_force_after-le rule (before ++ line ∷ []) lines t e) h
 
 -- a list stops at one of its lines
-pub stop_within : (rule : Rule) (lines : Lines) (n : ℕ) (r : Reason) → stop_of rule lines ≡ Some (n, r) → n ≤ length lines
+pub stop_within : (rule : Rule) (lines : Lines) (n : ℕ) (r : Halt) → stop_of rule lines ≡ Some (n, r) → n ≤ length lines
 unfolding stop_of in_force
 stop_within rule lines n r h = let e = stop_number rule lines n r h in let below = in_force_after-le rule [] lines (n, r) h in omega arith

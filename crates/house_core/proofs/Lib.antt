@@ -1,4 +1,5 @@
 pub mod AdmittedLemmas
+pub mod DrawnLemmas
 pub mod EndLemmas
 pub mod EndingLemmas
 pub mod HouseLemmas
@@ -12,6 +13,8 @@ pub mod ReviewPlaceLemmas
 pub mod ReviewPointLemmas
 pub mod SameRegisterLemmas
 pub mod SaysLemmas
+pub mod SettingLemmas
+pub mod ShortLemmas
 pub mod StateLemmas
 pub mod StepLemmas
 pub mod TakeLemmas

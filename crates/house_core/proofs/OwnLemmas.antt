@@ -1,32 +1,36 @@
--- What the words of a line are refused for, by the state.
-use Rattle.std.proofs.Common.{◌≡◌, ℕ, zero, ◌≤◌, ◌<◌, ◌-◌, ◌^◌, suc, Bool, true, false, eqb, ltb, leb, Option, Some, None, length, refl, sym, ap, ◌∙◌, subst, inl, inr, arith}
-use Rattle.std.specs.Prelude.{not, ◌||◌, ◌&&◌, if◌then◌else◌}
+-- What the words of a line end the run for, by the state.
+use Rattle.std.proofs.Common.{◌≡◌, ℕ, ◌≤◌, ◌<◌, ◌-◌, ◌^◌, Bool, true, false, eqb, ltb, leb, Option, Some, None, List, length, refl, sym, ap, ◌∙◌, subst, inl, inr, arith}
+use Rattle.std.specs.Prelude.{is_some, not, ◌||◌, ◌&&◌, if◌then◌else◌}
 use Rattle.std.specs.Option.{option_map_or}
+use Rattle.std.specs.Str.{bytes_eq}
 use Rattle.std.specs.Str.Parse.{digits_value}
 use Rattle.std.proofs.lemmas.Bool.{true≢false, not-true, not-false, and_cases, and_parts, and_left, and_right, le-leb, lt-leb, leb-true, leb-false}
-use Rattle.std.proofs.Math.Dec.{eqb-suc-zero}
 use Rattle.house_base.specs.declared.limits.TheConstants.{MOST_CLUSTERS}
 use Rattle.house_base.specs.Number.{number_up_to, is_canonical}
 use Rattle.house_base.specs.declared.answer.Reason.{Reason}
 use Rattle.house_base.specs.declared.answer.Reason.TheVariants as reason
 use Rattle.house_model.specs.declared.command.Command.{Command}
 use Rattle.house_model.specs.declared.command.Command.TheVariants as command
-use Rattle.house_model.specs.declared.goal.Goal.TheVariants as goal
+use Rattle.house_model.specs.declared.goal.Goal.{Goal}
+use Rattle.house_model.specs.Ending.{Halt}
 use Rattle.house_model.specs.declared.verb.Verb.{Verb}
 use Rattle.house_model.specs.declared.verb.Verb.TheVariants as verb
 use Rattle.house_model.specs.Commands.{verb_of_command}
-use Rattle.house_model.specs.Profile.{is_valid}
+use Rattle.house_base.specs.Setting.{Setting}
+use Rattle.house_model.specs.Profile.{Pairs, is_valid}
 use Rattle.house_model.specs.Text.{Text, Lines, word}
 use Rattle.house_model.specs.Verbs.{verb_in}
 use Rattle.house_model.specs.Register.{all_placed, name_pair}
-use Rattle.house_model.specs.Said.{has, number, clusters_of, applicant_in, register, denominator_of, setting, assigned}
-use Rattle.house_model.specs.Faults.{ill_formed, is_within, is_below, names_are_formed, numbers_are_in_range}
-use Rattle.house_model.specs.Transitional.{refusal}
+use Rattle.house_model.specs.Said.{has, number, clusters_of, applicant_in, register, denominator_of, setting, has_pairs, run_pairs}
+use Rattle.house_model.specs.FirstAssignment.{first_assignment, has_assignment}
+use Rattle.house_model.specs.Runs.{falls_short, halt}
+use Rattle.house_model.specs.Seeds.{seed_seal}
+use Rattle.house_model.specs.Faults.{fault, ill_formed, is_within, is_below, names_are_formed, numbers_are_in_range, looks_at_pairs}
 use Rattle.command_text.specs.Reading.{Carries, IsCommandLine, IsBadLine, numbers_are_within, reading_fault}
 use Rattle.house_core.specs.declared.state.State.{State}
-use Rattle.house_core.specs.Standing.{Says, turned_away, own_reason, clusters_in, setting_in, pairs_in}
-use Rattle.house_core.proofs.RefusalLemmas.{own_by, own_of, said_by}
-use Rattle.house_core.proofs.AdmittedLemmas.{IsAdmitted, is_admitted, admitted_refusal, the_call, few_clusters}
+use Rattle.house_core.specs.Standing.{Says, turned_away, own_reason, own_halt, falls_short_in, clusters_in, setting_in, has_pairs_in, pairs_in}
+use Rattle.house_core.proofs.RefusalLemmas.{own_by, own_of, said_by, halt_by, halt_is, fault_halts}
+use Rattle.house_core.proofs.AdmittedLemmas.{IsAdmitted, is_admitted, admitted_fault, the_call, few_clusters, seed_in}
 use Rattle.house_core.proofs.SameRegisterLemmas.{names-same, applicants-same, persons-same, own_count-same, placed-same, all_placed-same, pairs-same, denominator-same, setting-same}
 
 -- a command other than a call comes after one
@@ -125,12 +129,12 @@ none_by false true range h = cc
 none_by false false true h = cc
 none_by false false false h = (refl, refl, refl)
 
-some_by : (form name range off : Bool) (k u t f p v c : Bool) (r : Reason) → fault_by form name range ≡ Some r → (range ≡ true → off ≡ true) →
-    said_by form name (own_by off k u t f p v c) ≡ Some r
-some_by true name range off k u t f p v c r h stays = h
-some_by false true range off k u t f p v c r h stays = h
-some_by false false true off k u t f p v c r h stays = rw (stays refl) h
-some_by false false false off k u t f p v c r h stays = cc
+some_by : (form name range off : Bool) (k u t b f p v : Bool) (r : Reason) → fault_by form name range ≡ Some r → (range ≡ true → off ≡ true) →
+    said_by form name (own_by off k u t b f p v) ≡ Some r
+some_by true name range off k u t b f p v r h stays = h
+some_by false true range off k u t b f p v r h stays = h
+some_by false false true off k u t b f p v r h stays = rw (stays refl) h
+some_by false false false off k u t b f p v r h stays = cc
 
 -- numbers that are off the bounds that no call narrows are off those of the call
 off_stays : (lines : Lines) (s : State) (x : Text) (v : Verb) → Says lines s → IsAdmitted lines v → not (numbers_are_within v x) ≡ true → not (numbers_are_in_range lines v x) ≡ true
@@ -149,14 +153,14 @@ off_stays lines s x verb.Lottery h adm off = off
 off_stays lines s x verb.Other h adm off = off
 
 -- a line that can be read as no command is refused for what the reading found
-pub bad_refused : (lines : Lines) (s : State) (x : Text) (v : Verb) (r : Reason) → Says lines s → IsBadLine x v r → turned_away s v ≡ None → refusal goal.Run lines x ≡ Some r
-bad_refused lines s x v r h bad free =
+pub bad_refused : (g : Goal) (lines : Lines) (s : State) (x : Text) (v : Verb) (r : Reason) → Says lines s → IsBadLine x v r → turned_away s v ≡ None → halt g lines x ≡ Some (Halt.Refused r)
+bad_refused g lines s x v r h bad free =
     let adm = is_admitted lines s v h free in
     let found = subst (λ w. fault_by (ill_formed x) (not (names_are_formed w x)) (not (numbers_are_within w x)) ≡ Some r) (sym bad.verb) (sym (fault_is x) ∙ bad.fault) in
-    admitted_refusal lines x v bad.house (sym bad.verb) adm
-    ∙ some_by (ill_formed x) (not (names_are_formed v x)) (not (numbers_are_within v x)) (not (numbers_are_in_range lines v x)) _ _ _ _ _ _ _ r found (off_stays lines s x v h adm)
+    fault_halts g lines x r (admitted_fault g lines x v bad.house (sym bad.verb) adm
+    ∙ some_by (ill_formed x) (not (names_are_formed v x)) (not (numbers_are_within v x)) (not (numbers_are_in_range lines v x)) _ _ _ _ _ _ _ r found (off_stays lines s x v h adm))
 
--- What is left of the refusal of a command that was read.
+-- What is left of the fault of a command that was read.
 
 pub clusters_are : (lines : Lines) (s : State) → Says lines s → has verb.Call lines ≡ true → clusters_in s ≡ clusters_of lines
 clusters_are lines s h yes_call = let c = the_call lines s h yes_call in rw c.1 c.3
@@ -165,29 +169,30 @@ pub setting_is : (lines : Lines) (s : State) → Says lines s → has verb.Call 
 unfolding setting
 setting_is lines s h yes_call =
     let c = the_call lines s h yes_call in
-    rw (c.1, c.2, c.3, c.4) (setting-same _ _ _ s.book (register lines) h.book)
+    rw (c.1, c.2, c.3, c.4, h.seed) (setting-same _ _ _ _ s.book (register lines) h.book)
 
-pub pairs_are : (lines : Lines) (s : State) → Says lines s → has verb.Call lines ≡ true → pairs_in s ≡ assigned goal.Run lines
-unfolding assigned
+pub has_pairs_are : (lines : Lines) (s : State) → Says lines s → has_pairs_in s ≡ has_pairs lines
+unfolding has_pairs
+has_pairs_are lines s h = ap (λ (pairs : List (Text × Text)). not (eqb (length pairs) 0)) (pairs-same s.book (register lines) h.book)
+
+-- the pairs of an assignment, made by hand or first of all
+abbrev pairs_by : Bool → List (Text × Text) → Setting → Pairs
+pairs_by made pairs plan = if made then name_pair pairs plan else first_assignment plan
+
+pub pairs_are : (lines : Lines) (s : State) → Says lines s → has verb.Call lines ≡ true → pairs_in s ≡ run_pairs lines
+unfolding run_pairs
 pairs_are lines s h yes_call =
-    ap (λ plan. name_pair s.book.pairs plan) (setting_is lines s h yes_call) ∙ ap (λ pairs. name_pair pairs (setting lines)) (pairs-same s.book (register lines) h.book)
+    ap (λ made. pairs_by made s.book.pairs (setting_in s)) (has_pairs_are lines s h)
+    ∙ (ap (λ plan. pairs_by (has_pairs lines) s.book.pairs plan) (setting_is lines s h yes_call)
+    ∙ ap (λ pairs. pairs_by (has_pairs lines) pairs (setting lines)) (pairs-same s.book (register lines) h.book))
 
-some_or_none : (n : ℕ) → ltb 0 n ≡ not (eqb n 0)
-some_or_none zero = refl
-some_or_none (suc n) = rw (eqb-suc-zero n) (le-leb 1 (suc n) (omega arith))
-
-assign_by : (few placed some valid none drawn : Bool) → drawn ≡ false → some ≡ not none →
-    own_by false false false false few (not (drawn || placed)) (some && not valid) none
-    ≡ (if few then Some reason.Few else if not placed then Some reason.Unplaced else if none then Some reason.Later else if not valid then Some reason.Invalid else None)
-assign_by true placed some valid none drawn d h = refl
-assign_by false false some valid none drawn d h = rw d refl
-assign_by false true some valid true drawn d h = rw (d, h) refl
-assign_by false true some true false drawn d h = rw (d, h) refl
-assign_by false true some false false drawn d h = rw (d, h) refl
+-- an assignment, by what it is refused for
+abbrev assign_by : Bool → Bool → Bool → Option Reason
+assign_by few placed invalid = if few then Some reason.Few else if not placed then Some reason.Unplaced else if invalid then Some reason.Invalid else None
 
 -- what the lines answer to a command is what the state answers
 own_is : (lines : Lines) (s : State) (x : Text) (c : Command) → Says lines s → IsAdmitted lines (verb_of_command c) → Carries c x → not (numbers_are_within (verb_of_command c) x) ≡ false →
-    own_of lines (verb_of_command c) x ≡ own_reason s c
+    own_of s.goal lines (verb_of_command c) x ≡ own_reason s c
 own_is lines s x (command.Call call) h adm carries within = rw (not-false _ within) refl
 own_is lines s x (command.Applicant name person) h adm carries within =
     let its_name : name ≡ word x 1 = ap (λ (a : Text × Text). a.0) carries in
@@ -203,27 +208,58 @@ own_is lines s x (command.Place person cluster) h adm carries within =
     let clusters : clusters_in s ≡ clusters_of lines = clusters_are lines s h (came (has verb.Call lines) adm.called) in
     let range : is_within 1 (clusters_of lines) (word x 2) ≡ leb (number (word x 2)) (clusters_of lines) = within_clusters (word x 2) (clusters_of lines) (not-false _ within) in
     rw (range, its_person, its_cluster, clusters, placed-same s.book (register lines) h.book, persons-same s.book (register lines) h.book) refl
-own_is lines s x (command.Partition seed) h adm carries within = absurd (true≢false adm.at_once)
+own_is lines s x (command.Partition seed) h adm carries within = refl
 own_is lines s x (command.Pair person proposal) h adm carries within =
     let its_person : person ≡ word x 1 = ap (λ (a : Text × Text). a.0) carries in
     let its_proposal : proposal ≡ word x 2 = ap (λ (a : Text × Text). a.1) carries in
     rw (its_person, its_proposal, names-same s.book (register lines) h.book, persons-same s.book (register lines) h.book, pairs-same s.book (register lines) h.book) refl
-own_is lines s x (command.Seal digest) h adm carries within = absurd (true≢false adm.at_once)
+own_is lines s x (command.Seal digest) h adm carries within = refl
 own_is lines s x command.Assign h adm carries within =
     let yes_call : has verb.Call lines ≡ true = came (has verb.Call lines) adm.called in
-    assign_by (eqb (length (register lines).applicants) 0) (all_placed (register lines)) (ltb 0 (length (register lines).pairs)) (is_valid (setting lines) (assigned goal.Run lines))
-    (eqb (length (register lines).pairs) 0) (has verb.Partition lines) h.no_partition (some_or_none (length (register lines).pairs))
-    ∙ rw (pairs_are lines s h yes_call, setting_is lines s h yes_call, applicants-same s.book (register lines) h.book, all_placed-same s.book (register lines) h.book, pairs-same s.book (register lines) h.book) refl
+    sym
+    (ap (λ n. assign_by (eqb n 0) (is_some s.seed || all_placed s.book) (looks_at_pairs s.goal && has_pairs_in s && not (is_valid (setting_in s) (pairs_in s)))) (applicants-same s.book (register lines) h.book)
+    ∙ (ap (λ b. assign_by (eqb (length (register lines).applicants) 0) (b || all_placed s.book) (looks_at_pairs s.goal && has_pairs_in s && not (is_valid (setting_in s) (pairs_in s)))) (seed_in lines s h)
+    ∙ (ap (λ b. assign_by (eqb (length (register lines).applicants) 0) (has verb.Partition lines || b) (looks_at_pairs s.goal && has_pairs_in s && not (is_valid (setting_in s) (pairs_in s)))) (all_placed-same s.book (register lines) h.book)
+    ∙ (ap (λ b. assign_by (eqb (length (register lines).applicants) 0) (has verb.Partition lines || all_placed (register lines)) (looks_at_pairs s.goal && b && not (is_valid (setting_in s) (pairs_in s)))) (has_pairs_are lines s h)
+    ∙ (ap (λ plan. assign_by (eqb (length (register lines).applicants) 0) (has verb.Partition lines || all_placed (register lines)) (looks_at_pairs s.goal && has_pairs lines && not (is_valid plan (pairs_in s)))) (setting_is lines s h yes_call)
+    ∙ ap (λ pairs. assign_by (eqb (length (register lines).applicants) 0) (has verb.Partition lines || all_placed (register lines)) (looks_at_pairs s.goal && has_pairs lines && not (is_valid (setting lines) pairs))) (pairs_are lines s h yes_call))))))
 own_is lines s x command.Close h adm carries within = refl
 own_is lines s x (command.Draw n) h adm carries within =
-    rw (below_is (word x 1) (denominator_of (register lines)) (not-false _ within), carries, denominator-same s.book (register lines) h.book) refl
-own_is lines s x (command.Lottery seed) h adm carries within = absurd (true≢false adm.at_once)
+    rw (below_is (word x 1) (denominator_of (register lines)) (not-false _ within), carries, denominator-same s.book (register lines) h.book, h.seal) refl
+own_is lines s x (command.Lottery seed) h adm carries within =
+    let P : Text → Option (List ℕ) → Option Reason = λ t seal. if option_map_or (λ bytes. not (bytes_eq (seed_seal t) bytes)) seal false then Some reason.Seal else None in
+    sym (ap (λ t. P t s.seal) carries ∙ ap (P (word x 1)) h.seal)
 
--- a command that was read and may come is refused for what the state answers alone
-pub read_refusal : (lines : Lines) (s : State) (x : Text) (c : Command) → Says lines s → IsCommandLine x c → turned_away s (verb_of_command c) ≡ None →
-    refusal goal.Run lines x ≡ own_reason s c
-read_refusal lines s x c h line free =
-    let adm = is_admitted lines s (verb_of_command c) h free in
+-- whether an assignment falls short
+short_is : (lines : Lines) (s : State) (c : Command) → Says lines s → IsAdmitted lines (verb_of_command c) → falls_short s.goal lines (verb_of_command c) ≡ falls_short_in s c
+short_is lines s (command.Call call) h adm = refl
+short_is lines s (command.Applicant name person) h adm = refl
+short_is lines s (command.Conflict person proposal) h adm = refl
+short_is lines s (command.Place person cluster) h adm = refl
+short_is lines s (command.Partition seed) h adm = refl
+short_is lines s (command.Pair person proposal) h adm = refl
+short_is lines s (command.Seal digest) h adm = refl
+short_is lines s command.Assign h adm =
+    sym
+    (ap (λ b. not (looks_at_pairs s.goal && b) && not (has_assignment (setting_in s))) (has_pairs_are lines s h)
+    ∙ ap (λ plan. not (looks_at_pairs s.goal && has_pairs lines) && not (has_assignment plan)) (setting_is lines s h (came (has verb.Call lines) adm.called)))
+short_is lines s command.Close h adm = refl
+short_is lines s (command.Draw n) h adm = refl
+short_is lines s (command.Lottery seed) h adm = refl
+
+-- a command that was read and may come has the fault that the state answers alone
+read_fault : (lines : Lines) (s : State) (x : Text) (c : Command) → Says lines s → IsCommandLine x c → IsAdmitted lines (verb_of_command c) →
+    fault s.goal lines x ≡ own_reason s c
+read_fault lines s x c h line adm =
     let parts = none_by _ _ _ (subst (λ w. fault_by (ill_formed x) (not (names_are_formed w x)) (not (numbers_are_within w x)) ≡ None) (sym line.verb) (sym (fault_is x) ∙ line.no_fault)) in
-    admitted_refusal lines x (verb_of_command c) line.house (sym line.verb) adm
+    admitted_fault s.goal lines x (verb_of_command c) line.house (sym line.verb) adm
     ∙ rw (parts.0, parts.1) (own_is lines s x c h adm line.carries parts.2)
+
+-- and ends the run for what the state answers
+pub read_halt : (lines : Lines) (s : State) (x : Text) (c : Command) → Says lines s → IsCommandLine x c → turned_away s (verb_of_command c) ≡ None →
+    halt s.goal lines x ≡ own_halt s c
+read_halt lines s x c h line free =
+    let adm = is_admitted lines s (verb_of_command c) h free in
+    halt_is s.goal lines x
+    ∙ (ap (λ o. halt_by o (falls_short s.goal lines (verb_in x))) (read_fault lines s x c h line adm)
+    ∙ ap (halt_by (own_reason s c)) (ap (falls_short s.goal lines) (sym line.verb) ∙ short_is lines s c h adm))

@@ -12,14 +12,15 @@ use Rattle.house_base.specs.Number.{is_canonical, number_up_to}
 use Rattle.house_base.specs.Setting.{IsSetting, size, names_of}
 use Rattle.house_model.specs.declared.goal.Goal.{Goal}
 use Rattle.house_model.specs.declared.goal.Goal.TheVariants as goal
-use Rattle.house_model.specs.Faults.{is_within}
+use Rattle.house_model.specs.Faults.{is_within, looks_at_pairs}
 use Rattle.house_model.specs.Register.{names, persons, among}
 use Rattle.house_model.specs.Reviews.{is_before_assignment, is_after_close, is_assigned, kind_of, kind_tests, first_of_kinds, reviewer_place, proposal_place}
-use Rattle.house_model.specs.Said.{register, phase_after, setting, assigned}
+use Rattle.house_model.specs.Said.{register, phase_after, setting, run_pairs, assigned}
 use Rattle.house_model.specs.Text.{Text, Lines, words, word}
 use Rattle.command_text.specs.Reading.{name_in, review_in}
 use Rattle.review_desk.specs.Line.{kind_before, kind_among, is_person, is_applicant, reviewer_of, proposal_of}
-use Rattle.house_core.proofs.ReviewPlaceLemmas.{AreFormed, persons-setting, among-names, person-formed, name-formed, reviewer_place-below, proposal_place-below}
+use Rattle.house_core.specs.Standing.{are_known}
+use Rattle.house_core.proofs.ReviewPlaceLemmas.{AreFormed, among-persons, among-names, person-formed, name-formed, name-some, reviewer_place-below, proposal_place-below}
 
 -- The kind of a review line, as a desk finds it.
 
@@ -84,11 +85,17 @@ three-kinds false known' given given' few few' k g f = rw (← k) refl
 pub record HoldsAssigned (lines : Lines) (square : Square) : Type 0 where
   pub formed : AreFormed (register lines)
   pub is_setting : IsSetting (setting lines)
-  pub pairs : (r p : ℕ) → r < size (setting lines) → p < size (setting lines) → cell square r p ≡ assigned goal.Run lines r p
+  pub pairs : (r p : ℕ) → r < size (setting lines) → p < size (setting lines) → cell square r p ≡ run_pairs lines r p
+
+-- a word among texts, of which those that are formed are those of others
+among-formed-same : (texts others : List Text) (w : Text) (formed : Bool) → is_name w ≡ formed → (is_name w ≡ true → among texts w ≡ among others w) →
+    option_map_or (among texts) (if formed then Some w else None) false ≡ option_map_or (among others) (if formed then Some w else None) false
+among-formed-same texts others w true is h = h is
+among-formed-same texts others w false is h = refl
 
 pub is_person-register : (lines : Lines) (w : Text) → AreFormed (register lines) → is_person (setting lines) (name_in w) ≡ among (persons (register lines)) w
 is_person-register lines w formed =
-    ap (λ l. option_map_or (among l) (name_in w) false) (persons-setting lines)
+    among-formed-same (map (λ owner. owner.name) (setting lines).owners) (persons (register lines)) w (is_name w) refl (λ is. among-persons lines w (name-some w is))
     ∙ among-formed (persons (register lines)) w (is_name w) (λ known. person-formed (register lines) w formed known)
 
 pub is_applicant-register : (lines : Lines) (w : Text) → AreFormed (register lines) → is_applicant (setting lines) (name_in w) ≡ among (names (register lines)) w
@@ -113,7 +120,7 @@ names-pair lines x formed known =
     let name = name-formed (register lines) (word x 2) formed both.1 in
     record {
       reviewer_formed = person;
-      reviewer_known = ap (λ l. among l (word x 1)) (persons-setting lines) ∙ both.0;
+      reviewer_known = among-persons lines (word x 1) (name-some (word x 1) person) ∙ both.0;
       proposal_known = among-names lines (word x 2) ∙ both.1;
       reviewer = ap (λ o. option_map_or (reviewer_place (setting lines)) o 0) (name_in-formed (word x 1) person);
       proposal = ap (λ o. option_map_or (proposal_place (setting lines)) o 0) (name_in-formed (word x 2) name);
@@ -121,7 +128,7 @@ names-pair lines x formed known =
 
 -- the pair of such a line is assigned where the square says so
 given-by_square : (lines : Lines) (x : Text) (square : Square) → HoldsAssigned lines square → NamesPair lines x →
-    is_assigned (setting lines) (assigned goal.Run lines) (word x 1) (word x 2) ≡ cell square (reviewer_of (setting lines) (review_in x)) (proposal_of (setting lines) (review_in x))
+    is_assigned (setting lines) (run_pairs lines) (word x 1) (word x 2) ≡ cell square (reviewer_of (setting lines) (review_in x)) (proposal_of (setting lines) (review_in x))
 unfolding is_assigned
 given-by_square lines x square h named =
     let s = setting lines in
@@ -138,7 +145,7 @@ kind_after-square lines x square h =
     three-kinds
     (among (persons (register lines)) (word x 1) && among (names (register lines)) (word x 2))
     (is_person (setting lines) (name_in (word x 1)) && is_applicant (setting lines) (name_in (word x 2)))
-    (is_assigned (setting lines) (assigned goal.Run lines) (word x 1) (word x 2))
+    (is_assigned (setting lines) (run_pairs lines) (word x 1) (word x 2))
     (cell square (reviewer_of (setting lines) (review_in x)) (proposal_of (setting lines) (review_in x)))
     (is_within 0 MOST_POINTS (word x 3))
     (option_map_or (λ x. leb x MOST_POINTS) (number_up_to MOST_POINTS (word x 3)) false)
@@ -162,7 +169,7 @@ pub kept-line : (lines : Lines) (x : Text) (square : Square) → HoldsAssigned l
 kept-line lines x square h kept =
     let passes = no-kinds
     (among (persons (register lines)) (word x 1) && among (names (register lines)) (word x 2))
-    (is_assigned (setting lines) (assigned goal.Run lines) (word x 1) (word x 2))
+    (is_assigned (setting lines) (run_pairs lines) (word x 1) (word x 2))
     (is_within 0 MOST_POINTS (word x 3))
     (kind_after-square lines x square h ∙ kept) in
     (names-pair lines x h.formed passes.0, passes.1)
@@ -183,3 +190,33 @@ pub kind-by_names : (lines : Lines) (x : Text) (square : Square) → HoldsAssign
     kind_of goal.Run lines x ≡ kind_among (setting lines) (cell square) (review_in x)
 kind-by_names lines x square h none =
     kind-by_desk lines x square h ∙ ap (λ o. option_or o (kind_among (setting lines) (cell square) (review_in x))) none
+
+-- Where nothing is assigned a line without a kind by the phase and the words is unassigned, if its names are known.
+
+not_assigned : (known few : Bool) → first_of_kinds ((kind.Unknown, not known) ∷ (kind.Unassigned, not false) ∷ (kind.Range, not few) ∷ []) ≡ (if known then Some kind.Unassigned else Some kind.Unknown)
+not_assigned true few = refl
+not_assigned false few = refl
+
+are_known-lines : (lines : Lines) (x : Text) → AreFormed (register lines) →
+    are_known (register lines) (name_in (word x 1)) (name_in (word x 2)) ≡ (among (persons (register lines)) (word x 1) && among (names (register lines)) (word x 2))
+are_known-lines lines x formed =
+    ap (λ b. b && option_map_or (among (names (register lines))) (name_in (word x 2)) false)
+    (among-formed (persons (register lines)) (word x 1) (is_name (word x 1)) (λ known. person-formed (register lines) (word x 1) formed known))
+    ∙ ap (λ b. among (persons (register lines)) (word x 1) && b)
+    (among-formed (names (register lines)) (word x 2) (is_name (word x 2)) (λ known. name-formed (register lines) (word x 2) formed known))
+
+pub kind-by_register : (lines : Lines) (x : Text) → AreFormed (register lines) → kind_before (phase_after lines) (review_in x) ≡ None →
+    kind_of goal.Feasible lines x ≡ (if are_known (register lines) (name_in (word x 1)) (name_in (word x 2)) then Some kind.Unassigned else Some kind.Unknown)
+unfolding is_assigned
+kind-by_register lines x formed none =
+    kind_of-parts goal.Feasible lines x
+    ∙ (ap (λ o. option_or o (kind_after goal.Feasible lines x)) none
+    ∙ (not_assigned (among (persons (register lines)) (word x 1) && among (names (register lines)) (word x 2)) (is_within 0 MOST_POINTS (word x 3))
+    ∙ ap (λ b. if b then Some kind.Unassigned else Some kind.Unknown) (sym (are_known-lines lines x formed))))
+
+-- a goal that looks at the pairs has the kinds of a run
+pub kind-by_pairs : (g : Goal) (lines : Lines) (x : Text) → looks_at_pairs g ≡ true → kind_of g lines x ≡ kind_of goal.Run lines x
+unfolding kind_of kind_tests
+kind-by_pairs goal.Run lines x h = refl
+kind-by_pairs goal.Pairs lines x h = refl
+kind-by_pairs goal.Feasible lines x h = absurd (false≢true h)

@@ -16,10 +16,10 @@ use Rattle.house_model.specs.Report.{name_at}
 use Rattle.house_model.specs.Text.{Text, Lines, words, word}
 use Rattle.house_model.specs.Verbs.{verb_number, commands, is_review}
 use Rattle.house_model.specs.Register.{reviewer_at}
-use Rattle.house_model.specs.Said.{has, register, phase_after, number, setting, assigned, draw_of}
+use Rattle.house_model.specs.Said.{has, register, phase_after, number, setting, run_pairs, draw_of}
 use Rattle.house_model.specs.Reviews.{kind_of, kind_tests, kept_after, asides_after, asides_of, no_asides, points_of}
 use Rattle.house_core.proofs.VerbLemmas.{review_other}
-use Rattle.house_core.proofs.PushLemmas.{has_push, has_other, call_number_other, draw_of_other, register_other, phase_other, setting_same, assigned_same}
+use Rattle.house_core.proofs.PushLemmas.{has_push, has_other, call_number_other, seed_of_other, draw_of_other, register_other, phase_other, setting_same, run_pairs_same}
 
 -- The reviews of a list of lines with one more.
 
@@ -132,10 +132,11 @@ pub register-review : (lines : Lines) (x : Text) → is_review x ≡ true → re
 register-review lines x h = register_other verb.Other lines x (review_other x h) refl refl refl refl
 
 pub setting-review : (lines : Lines) (x : Text) → is_review x ≡ true → setting (lines ++ x ∷ []) ≡ setting lines
-setting-review lines x h = setting_same lines (lines ++ x ∷ []) (λ i. call_number_other verb.Other lines x i (review_other x h) refl) (register-review lines x h)
+setting-review lines x h =
+    setting_same lines (lines ++ x ∷ []) (λ i. call_number_other verb.Other lines x i (review_other x h) refl) (seed_of_other verb.Other lines x (review_other x h) refl) (register-review lines x h)
 
-pub assigned-review : (lines : Lines) (x : Text) → is_review x ≡ true → assigned goal.Run (lines ++ x ∷ []) ≡ assigned goal.Run lines
-assigned-review lines x h = assigned_same lines (lines ++ x ∷ []) (register-review lines x h) (setting-review lines x h)
+pub run_pairs-review : (lines : Lines) (x : Text) → is_review x ≡ true → run_pairs (lines ++ x ∷ []) ≡ run_pairs lines
+run_pairs-review lines x h = run_pairs_same lines (lines ++ x ∷ []) (register-review lines x h) (setting-review lines x h)
 
 -- each command but that of no command
 pub has-review : (v : Verb) (lines : Lines) (x : Text) → is_review x ≡ true → eqb 11 (verb_number v) ≡ false → has v (lines ++ x ∷ []) ≡ has v lines
@@ -145,4 +146,4 @@ pub phase-review : (lines : Lines) (x : Text) → is_review x ≡ true → phase
 phase-review lines x h = phase_other verb.Other lines x (review_other x h) refl refl refl refl
 
 pub draw-review : (lines : Lines) (x : Text) → is_review x ≡ true → draw_of (lines ++ x ∷ []) ≡ draw_of lines
-draw-review lines x h = draw_of_other verb.Other lines x (review_other x h) refl
+draw-review lines x h = draw_of_other verb.Other lines x (review_other x h) refl refl (register-review lines x h)

@@ -1,4 +1,4 @@
-use Rattle.std.proofs.Common.{◌≡◌, ◌≢◌, ℕ, zero, suc, ◌<◌, Bool, true, false, eqb, ltb, List, [], ◌∷◌, length, map, get_or, All, Contains, bytes_eq, IsTrue, Some, None, refl, sym, ap, subst, ◌∙◌, inl, inr, arith}
+use Rattle.std.proofs.Common.{◌≡◌, ◌≢◌, ℕ, zero, suc, ◌<◌, Bool, true, false, eqb, ltb, Option, List, [], ◌∷◌, flat_map, length, map, get_or, All, Contains, bytes_eq, IsTrue, Some, None, refl, sym, ap, subst, ◌∙◌, inl, inr, arith}
 use Rattle.std.specs.List.{position_or_len, slice_get}
 use Rattle.std.specs.Option.{option_map_or}
 use Rattle.std.proofs.lemmas.Bool.{true≢false, cases_order, cond-true, eqb-true, eq-eqb, lt-ltb}
@@ -12,43 +12,98 @@ use Rattle.house_base.specs.Setting.{Setting, IsSetting, size, names_of, owner_f
 use Rattle.house_base.proofs.Settings.{Contains-find, find-from_Contains, find_cases, owner_from-first}
 use Rattle.house_model.specs.Report.{name_at}
 use Rattle.house_model.specs.Text.{Text, Lines}
-use Rattle.house_model.specs.Register.{Register, names, persons, owners, people, entry, among, reviewer_at, open_setting, registered_setting}
+use Rattle.house_model.specs.Register.{Register, names, persons, own_people, entry, among, reviewer_at}
 use Rattle.house_model.specs.Reviews.{reviewer_place, proposal_place}
-use Rattle.house_model.specs.Said.{register, setting}
-use Rattle.house_model.proofs.InOrderLemmas.{In, In-map, map-In, In-Contains, In-from_Contains, All-In, InOrder-from_AllPairs, same_element}
-use Rattle.house_model.proofs.GroupLemmas.{same_text, bytes_eq-same, among-In, among-same, firsts-In}
+use Rattle.house_model.specs.Said.{register, seats_of, clusters_of, reviews_of, seed_of, setting}
+use Rattle.house_model.specs.Seeds.{drawn_persons, drawn_register, open_setting_in, setting_in, seeded_persons, seeded_register}
+use Rattle.house_model.proofs.InOrderLemmas.{In, In-map, map-In, In-filter, In-flat_map, flat_map-In, In-Contains, In-from_Contains, All-In, InOrder-from_AllPairs, same_element}
+use Rattle.house_model.proofs.GroupLemmas.{same_text, bytes_eq-same, among-In, among-same, firsts-In, In-group}
 use Rattle.house_model.proofs.RegisterLemmas.{their_persons}
-use Rattle.house_model.proofs.RegisterPeopleLemmas.{Numbered, numbered, entries, map-map, map-enumerate_from, people-entries, entries-In, In-entries}
+use Rattle.house_model.proofs.RegisterPeopleLemmas.{Numbered, person_in, numbered, own_entries, map-enumerate_from, person_among}
 use Rattle.house_model.proofs.RegisterSettingLemmas.{names-owners_from}
+use Rattle.house_model.proofs.SeedLemmas.{persons-drawn, setting_in-seeded}
 use Rattle.review_desk.proofs.PlaceLemmas.{first-below}
+use Rattle.house_core.proofs.DrawnLemmas.{drawn-each, drawn-only}
 
 -- The names of a register in its setting, and the places under them.
 
 -- Names.
 
--- the persons of the setting are those of the register
-pub persons-setting : (lines : Lines) → map (λ owner. owner.name) (setting lines).owners ≡ persons (register lines)
-unfolding setting registered_setting open_setting owners
-persons-setting lines = names-owners_from (register lines) 0 (persons (register lines))
+-- the persons and the applicants of a register whose persons stand in some order
+owners-in : (order : List Text) (seats clusters reviews : ℕ) (reg : Register) → map (λ owner. owner.name) (setting_in order seats clusters reviews reg).owners ≡ order
+unfolding setting_in open_setting_in
+owners-in order seats clusters reviews reg = names-owners_from reg 0 order
 
-names-entries : (reg : Register) → map (λ person. person.name) (people reg) ≡ map (λ e. e.1.0) (entries reg)
-names-entries reg = ap (map (λ person. person.name)) (people-entries reg) ∙ map-map (λ person. person.name) (entry reg) (entries reg)
+people-in : (order : List Text) (seats clusters reviews : ℕ) (reg : Register) → (setting_in order seats clusters reviews reg).people ≡ flat_map (own_people reg) order
+unfolding setting_in open_setting_in
+people-in order seats clusters reviews reg = refl
 
-among-people : (reg : Register) (t : Text) → among (map (λ person. person.name) (people reg)) t ≡ among (names reg) t
-among-people reg t =
+person-registered : (reg : Register) (order : List Text) (x : Person) → In x (flat_map (own_people reg) order) → (e : Numbered) × In e (numbered reg) × (x ≡ entry reg e)
+unfolding own_people
+person-registered reg order x m =
+    let of = flat_map-In (own_people reg) x order m in
+    let r = map-In (entry reg) x (own_entries reg of.0) of.2 in
+    (r.0, (In-group person_in (numbered reg) of.0 r.0 r.1).0, r.2)
+
+registered-person : (reg : Register) (order : List Text) (e : Numbered) → ((t : Text) → In t (persons reg) → In t order) → In e (numbered reg) → In (entry reg e) (flat_map (own_people reg) order)
+unfolding own_people
+registered-person reg order e each m =
+    In-flat_map (own_people reg) e.1.1 (entry reg e) order (each e.1.1 (person_among reg e m))
+    (In-map (entry reg) e (own_entries reg e.1.1) (In-filter (λ x. bytes_eq x.1.1 e.1.1) e (numbered reg) m (bytes_eq-same e.1.1 e.1.1 refl)))
+
+names-numbered : (reg : Register) → map (λ (e : Numbered). e.1.0) (numbered reg) ≡ names reg
+names-numbered reg = map-enumerate_from (λ a. a.0) 0 reg.applicants
+
+among-people : (reg : Register) (order : List Text) (t : Text) → ((u : Text) → In u (persons reg) → In u order) →
+    among (map (λ person. person.name) (flat_map (own_people reg) order)) t ≡ among (names reg) t
+among-people reg order t each =
     let name = λ (e : Numbered). e.1.0 in
-    let to : In t (map (λ (e : Numbered). e.1.0) (entries reg)) → In t (map (λ (e : Numbered). e.1.0) (numbered reg)) =
-    λ m. let r = map-In name t (entries reg) m in subst (λ y. In y (map (λ (e : Numbered). e.1.0) (numbered reg))) (sym r.2) (In-map name r.0 (numbered reg) (entries-In reg r.0 r.1)) in
-    let back : In t (map (λ (e : Numbered). e.1.0) (numbered reg)) → In t (map (λ (e : Numbered). e.1.0) (entries reg)) =
-    λ m. let r = map-In name t (numbered reg) m in subst (λ y. In y (map (λ (e : Numbered). e.1.0) (entries reg))) (sym r.2) (In-map name r.0 (entries reg) (In-entries reg r.0 r.1)) in
-    ap (λ l. among l t) (names-entries reg)
-    ∙ (among-same (map name (entries reg)) (map name (numbered reg)) t to back
-    ∙ ap (λ l. among l t) (map-enumerate_from (λ a. a.0) 0 reg.applicants))
+    among-same (map (λ person. person.name) (flat_map (own_people reg) order)) (names reg) t
+    (λ m.
+    let of = map-In (λ person. person.name) t (flat_map (own_people reg) order) m in
+    let r = person-registered reg order of.0 of.1 in
+    subst (λ l. In t l) (names-numbered reg) (subst (λ y. In y (map name (numbered reg))) (sym (of.2 ∙ ap (λ p. p.name) r.2)) (In-map name r.0 (numbered reg) r.1)))
+    (λ m.
+    let r = map-In name t (numbered reg) (subst (λ l. In t l) (sym (names-numbered reg)) m) in
+    subst (λ y. In y (map (λ person. person.name) (flat_map (own_people reg) order))) (sym r.2)
+    (In-map (λ person. person.name) (entry reg r.0) (flat_map (own_people reg) order) (registered-person reg order r.0 each r.1)))
+
+-- the order of the persons under a seed, or without one
+seeded-each : (seed : Option Text) (clusters : ℕ) (reg : Register) (t : Text) → In t (persons (seeded_register seed clusters reg)) → In t (seeded_persons seed reg)
+seeded-each None clusters reg t m = m
+seeded-each (Some seed) clusters reg t m = drawn-each seed reg t (subst (λ l. In t l) (persons-drawn seed clusters reg) m)
+
+among-seeded : (seed : Option Text) (reg : Register) (t : Text) → t ≢ [] → among (seeded_persons seed reg) t ≡ among (persons reg) t
+among-seeded None reg t some = refl
+among-seeded (Some seed) reg t some = among-same (drawn_persons seed reg) (persons reg) t (drawn-only seed reg t some) (drawn-each seed reg t)
+
+seeded-names : (seed : Option Text) (clusters : ℕ) (reg : Register) → names (seeded_register seed clusters reg) ≡ names reg
+unfolding drawn_register
+seeded-names None clusters reg = refl
+seeded-names (Some seed) clusters reg = refl
+
+-- the lines give such a setting
+setting-seeded : (lines : Lines) →
+    setting_in (seeded_persons (seed_of lines) (register lines)) (seats_of lines) (clusters_of lines) (reviews_of lines) (seeded_register (seed_of lines) (clusters_of lines) (register lines)) ≡ setting lines
+unfolding setting
+setting-seeded lines = setting_in-seeded (seed_of lines) (seats_of lines) (clusters_of lines) (reviews_of lines) (register lines)
+
+-- the persons of the setting are those of the register
+pub among-persons : (lines : Lines) (t : Text) → t ≢ [] → among (map (λ owner. owner.name) (setting lines).owners) t ≡ among (persons (register lines)) t
+among-persons lines t some =
+    ap (λ s. among (map (λ owner. owner.name) s.owners) t) (sym (setting-seeded lines))
+    ∙ (ap (λ l. among l t) (owners-in (seeded_persons (seed_of lines) (register lines)) (seats_of lines) (clusters_of lines) (reviews_of lines) (seeded_register (seed_of lines) (clusters_of lines) (register lines)))
+    ∙ among-seeded (seed_of lines) (register lines) t some)
 
 -- the applicants of the setting are those of the register
 pub among-names : (lines : Lines) (t : Text) → among (names_of (setting lines)) t ≡ among (names (register lines)) t
-unfolding setting registered_setting open_setting
-among-names lines t = among-people (register lines) t
+among-names lines t =
+    let order = seeded_persons (seed_of lines) (register lines) in
+    let reg = seeded_register (seed_of lines) (clusters_of lines) (register lines) in
+    ap (λ s. among (names_of s) t) (sym (setting-seeded lines))
+    ∙ (ap (λ l. among (map (λ person. person.name) l) t) (people-in (seeded_persons (seed_of lines) (register lines)) (seats_of lines) (clusters_of lines) (reviews_of lines) (seeded_register (seed_of lines) (clusters_of lines) (register lines)))
+    ∙ (among-people reg order t (seeded-each (seed_of lines) (clusters_of lines) (register lines))
+    ∙ ap (λ l. among l t) (seeded-names (seed_of lines) (clusters_of lines) (register lines))))
 
 -- the names and the persons of these applicants are of the form of names
 abbrev pub AreFormed : Register → Type 0

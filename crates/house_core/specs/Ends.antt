@@ -10,8 +10,8 @@ use Rattle.house_model.specs.Reviews.{asides_of, profile}
 use Rattle.house_model.specs.Said.{draw_of}
 use Rattle.house_core.specs.declared.step.EndFault.{EndFault}
 use Rattle.house_core.specs.declared.step.EndFault.TheVariants as fault
-use Rattle.house_core.specs.declared.state.Stop.{Stop}
-use Rattle.house_core.specs.declared.state.Stop.TheVariants as stop
+use Rattle.house_core.specs.declared.round.Stop.{Stop}
+use Rattle.house_core.specs.declared.round.Stop.TheVariants as stop
 
 -- the outcome is that of these lines: of their profile, what they set aside and their draw
 pub record IsOutcome (lines : Lines) (o : OutcomeParts) : Type 0 where
@@ -23,10 +23,12 @@ pub record IsOutcome (lines : Lines) (o : OutcomeParts) : Type 0 where
 abbrev pub EndsAs : Ended → Lines → Result OutcomeParts EndFault → Type 0
 EndsAs e lines (Err fault.Memory) = Unit {0}
 EndsAs (Ended.Refused n r) lines (Err (fault.Refused m q)) = (m ≡ n) × (q ≡ r)
+EndsAs Ended.Short lines (Err fault.Short) = Unit {0}
 EndsAs Ended.Done lines (Ok outcome) = IsOutcome lines outcome
 EndsAs e lines answer = ⊥
 
 -- the answer of a house that has stopped behind so many lines
 abbrev pub stopped_fault : ℕ → Stop → EndFault
 stopped_fault lines (stop.Refused reason) = fault.Refused (raised lines) reason
+stopped_fault lines (stop.Short shortage) = fault.Short
 stopped_fault lines stop.Memory = fault.Memory

@@ -3,12 +3,10 @@ use Rattle.register_book.specs.declared.fault.BookFault.{BookFault}
 use Rattle.register_book.specs.declared.fault.BookFault.TheVariants as book
 use Rattle.cluster_draw.specs.declared.fault.FreezeFault.{FreezeFault}
 use Rattle.cluster_draw.specs.declared.fault.FreezeFault.TheVariants as freeze
-use Rattle.first_assign.specs.declared.fault.GivenFault.{GivenFault}
-use Rattle.first_assign.specs.declared.fault.GivenFault.TheVariants as given
-use Rattle.house_core.specs.declared.state.Stop.{Stop}
-use Rattle.house_core.specs.declared.state.Stop.TheVariants as stop
+use Rattle.house_core.specs.declared.round.Stop.{Stop}
+use Rattle.house_core.specs.declared.round.Stop.TheVariants as stop
 
--- what a refusal of the register, of the plan and of the pairs means for a line
+-- what a refusal of the register and of the plan means for a line
 abbrev pub stop_of : BookFault → Stop
 stop_of book.Known = stop.Refused reason.Known
 stop_of book.Unknown = stop.Refused reason.Unknown
@@ -19,7 +17,3 @@ abbrev pub stop_of_freeze : FreezeFault → Stop
 stop_of_freeze freeze.Few = stop.Refused reason.Few
 stop_of_freeze freeze.Unplaced = stop.Refused reason.Unplaced
 stop_of_freeze freeze.Memory = stop.Memory
-
-abbrev pub stop_of_given : GivenFault → Stop
-stop_of_given given.Invalid = stop.Refused reason.Invalid
-stop_of_given given.Memory = stop.Memory

@@ -2,7 +2,10 @@
 
 #![tactic(auto)]
 
+mod assigning;
+mod commands;
 mod house;
+mod round;
 mod state;
 mod step;
 

@@ -9,6 +9,8 @@ pub enum Step {
     Going(Took),
     /// The line, by its number from 1, is refused, and has ended the run.
     Refused(u64, Reason),
+    /// The line asks for an assignment, no valid one exists, and this has ended the run.
+    Short,
     /// Want of memory has ended the run.
     Memory,
 }
@@ -16,7 +18,10 @@ pub enum Step {
 /// Why a run has no outcome.
 #[derive(Clone, Copy, Debug, PartialEq, Eq)]
 pub enum EndFault {
+    /// The line of this number, from 1, was refused, or the end of the lines is.
     Refused(u64, Reason),
+    /// No valid assignment exists.
+    Short,
     Memory,
 }
 

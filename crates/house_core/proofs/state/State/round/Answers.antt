@@ -1,12 +1,11 @@
-use Rattle.std.proofs.Common.{ap, ◌∙◌}
-use Rattle.house_base.specs.Grid.{cell}
-use Rattle.house_model.proofs.SameLemmas.{is_valid-same}
-use Rattle.house_model.specs.Profile.{denominator}
-use Rattle.house_core.proofs.StateLemmas.{denominator_same}
+use Rattle.house_core.proofs.StateLemmas.{not_so, some_once_begun}
 use Rattle.house_core.proofs.state.State.round.Goals as goal
 
-pub returns-clause-settled : goal.returns-clause-settled
-returns-clause-settled c = ap denominator c.in-Ok.ensures.plan ∙ denominator_same _ _ _ c.args.self.now.book
+pub returns-then-not-looks_at_pairs-clause-some : goal.returns-then-not-looks_at_pairs-clause-some
+returns-then-not-looks_at_pairs-clause-some c = some_once_begun c.args.self.now.book c.settled.result (not_so _ (λ h. let e = c.in-Ok.ensures.few.1 h in cc))
 
-pub set_up-requires-clause-valid : goal.set_up-requires-clause-valid
-set_up-requires-clause-valid c = is_valid-same c.in-Ok.plan (cell c.in-Ok-given.pairs) _ c.in-Ok-given.ensures.pairs ∙ c.in-Ok-given.ensures.valid
+pub returns-then-pairs-eq0-clause-some : goal.returns-then-pairs-eq0-clause-some
+returns-then-pairs-eq0-clause-some c = some_once_begun c.args.self.now.book c.computed.result (not_so _ (λ h. let e = c.in-Ok.ensures.few.1 h in cc))
+
+pub returns-else-pairs-eq0-clause-some : goal.returns-else-pairs-eq0-clause-some
+returns-else-pairs-eq0-clause-some c = some_once_begun c.args.self.now.book c.checked.result (not_so _ (λ h. let e = c.in-Ok.ensures.few.1 h in cc))

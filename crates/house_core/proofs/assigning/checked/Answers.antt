@@ -1,0 +1,7 @@
+use Rattle.std.proofs.Common.{◌∙◌}
+use Rattle.house_base.specs.Grid.{cell}
+use Rattle.house_model.proofs.SameLemmas.{is_valid-same}
+use Rattle.house_core.proofs.assigning.checked.Goals as goal
+
+pub begun-requires-clause-valid : goal.begun-requires-clause-valid
+begun-requires-clause-valid c = is_valid-same c.args.plan (cell c.in-Ok.pairs) _ c.in-Ok.ensures.pairs ∙ c.in-Ok.ensures.valid

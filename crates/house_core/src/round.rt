@@ -1,0 +1,64 @@
+//! What an assignment begins, and why a line may end a run.
+
+ghost use Rattle.std.specs.Prelude.{◌≡◌, IfSome, if◌then◌else◌};
+ghost use Rattle.house_base.specs.declared.review.ReviewLine.{ReviewLine};
+ghost use Rattle.seat_quota.specs.Tally.{IsTally};
+ghost use Rattle.house_core.specs.Standing.{IsRoundAfter, are_known, kind_at};
+ghost use Rattle.review_desk.specs.Line.{took_as};
+
+use cut_gap::Cut;
+use house_base::{Kind, Plan, Reason, ReviewLine, Took};
+use register_book::Book;
+use seat_quota::Tally;
+
+/// An accepted assignment: the setting, and the points that are given, where the goal looks at the pairs.
+#[derive(Drop)]
+pub struct Round {
+    pub plan: Plan,
+    pub tally: Option<Tally>,
+}
+
+/// A setting for which no valid assignment exists, with the cut that shows it.
+#[derive(Drop)]
+pub struct Shortage {
+    pub plan: Plan,
+    pub cut: Cut,
+}
+
+/// Why a line was not taken.
+#[derive(Drop)]
+pub enum Stop {
+    Refused(Reason),
+    Short(Shortage),
+    Memory,
+}
+
+impl Round {
+    /// Takes a whole review line while reviews are taken.
+    pub fn review(&mut self, book: &Book, line: &ReviewLine) -> Took
+        requires { IfSome self.old.tally (λ tally. IsTally self.old.plan tally) }
+        ensures after { IsRoundAfter self.old self.new line.now }
+        ensures took { result ≡ took_as (kind_at book.now self.old line.now) }
+        ensures tally { IfSome self.new.tally (λ tally. IsTally self.new.plan tally) }
+    {
+        match &mut self.tally {
+            Some(tally) => tally.review(&self.plan, line),
+            None => Took::Aside(unassigned(book, line)),
+        }
+    }
+}
+
+/// Why a review line is set aside where nothing is assigned.
+fn unassigned(book: &Book, line: &ReviewLine) -> Kind
+    ensures { Some result ≡ (if are_known book.now line.now.reviewer line.now.proposal
+        then Some Kind.Unassigned else Some Kind.Unknown) }
+{
+    let (Some(reviewer), Some(proposal)) = (line.reviewer, line.proposal) else {
+        return Kind::Unknown;
+    };
+    if book.find_person(reviewer).is_some() && book.find(proposal).is_some() {
+        Kind::Unassigned
+    } else {
+        Kind::Unknown
+    }
+}

@@ -1,157 +1,121 @@
--- The answer that is due, from what was read.
-use Rattle.std.proofs.Common.{◌≡◌, ℕ, ◌≤◌, Bool, true, false, not, cond, ltb, ◌||◌, List, [], ◌∷◌, ◌++◌, length, codes, refl, sym, ap, ◌∙◌, arith, append-nil, subst}
-use Rattle.std.specs.Prelude.{Option, None, Some, Ok, Err, IfSome, ◌≢◌, decimal}
-use Rattle.std.proofs.lemmas.Bool.Decides.{nat_tests}
-use Rattle.house_base.specs.Answer.{reason_word}
-use Rattle.house_base.specs.declared.answer.Reason.{Reason}
-use Rattle.house_core.specs.Ends.{EndsAs, IsOutcome}
-use Rattle.house_core.specs.declared.step.EndFault.TheVariants as fault
-use Rattle.house_io.proofs.Told.{AppendsWhereTold-refl}
-use Rattle.house_io.specs.Sink.{AppendsWhereTold}
+-- What a call comes to, from the answer to its input.
+use Rattle.std.proofs.Common.{◌≡◌, ℕ, Bool, true, false, not, cond, ◌&&◌, List, [], Option, Some, None, refl, sym, ap, ◌∙◌, subst}
+use Rattle.std.specs.Prelude.{IfSome, MatchOption}
+use Rattle.std.specs.Option.{option_map_or}
+use Rattle.std.proofs.lemmas.Option.{IfSome_then}
+use borrow.Enum.Total.{values_d}
+use Rattle.house_model.specs.contracts.form.Form.{enum as the_form}
+use Rattle.house_model.specs.declared.form.Form.{Form}
+use Rattle.house_model.specs.declared.form.Form.TheVariants as form
+use Rattle.house_model.specs.declared.goal.Goal.{Goal}
 use Rattle.house_model.specs.declared.goal.Goal.TheVariants as goal
-use Rattle.house_model.specs.declared.limits.TheConstants.{MOST_BYTES, MOST_LINES}
-use Rattle.house_model.specs.Due.{Due, due, due_of_end, due_text, is_run, ran, text_of_due}
-use Rattle.house_model.specs.Headline.{AreOfCall}
-use Rattle.house_model.specs.Reviews.{profile}
+use Rattle.house_model.specs.Due.{Due, IsDueText, IsTextOfForm, due, due_of_end, due_of_form, form_of, outcome}
 use Rattle.house_model.specs.Ending.{Ended}
-use Rattle.house_model.specs.Heard.{is_over}
-use Rattle.house_model.specs.Report.{OutcomeParts, line_of, outcome_text, report}
-use Rattle.house_model.specs.Text.{Text, Lines, lines}
-use Rattle.house_model.specs.Transitional.{end_of, report_of}
-use Rattle.house_top.specs.Call.{run_words, status_of, IsDue, IsDueAnswer}
-use Rattle.house_top.specs.Input.{Reads, ReadsWhereTold}
+use Rattle.house_model.specs.Heard.{heard, is_over}
+use Rattle.house_model.specs.Headline.{AreOfCall, ComesShort}
+use Rattle.house_model.specs.Runs.{end_of, ends_run, looked_at}
+use Rattle.house_model.specs.Text.{Text}
+use Rattle.house_model.proofs.RunEndLemmas.{shortage-ends}
+use Rattle.house_top.specs.Call.{IsDue, IsDueAnswer, IsShortOrFault, run_words, status_of}
 use Rattle.house_top.specs.declared.status.Status.{Status}
 use Rattle.house_top.specs.declared.status.Status.TheVariants as status
-use Rattle.house_top.proofs.LineLemmas.{over_stays}
+use Rattle.house_top.proofs.AnswerLemmas.{ends_short_of}
+use Rattle.house_top.proofs.TellLemmas.{never_over, outcome_by}
 
--- other words than `run` alone
-pub due_of_other_words : (words : List Text) (input : List ℕ) → is_run words ≡ false → due words input ≡ Due.Usage
+-- what is due, by what the words ask for
+pub due_by : (words : List Text) (input : List ℕ) (asked : Option Form) → form_of words ≡ asked → due words input ≡ option_map_or (λ asked. due_of_form asked input) asked Due.Usage
 unfolding due
-due_of_other_words words input h = ap (λ b. cond b (cond (is_over input) Due.TooLong (due_of_end (end_of goal.Run (lines input)))) Due.Usage) h
-
-due_of_run : (words : List Text) (input : List ℕ) → is_run words ≡ true → due words input ≡ due run_words input
-unfolding due
-due_of_run words input h = ap (λ b. cond b (cond (is_over input) Due.TooLong (due_of_end (end_of goal.Run (lines input)))) Due.Usage) h
-
-due_over : (input : List ℕ) → is_over input ≡ true → due run_words input ≡ Due.TooLong
-unfolding due
-due_over input h = ap (λ b. cond b Due.TooLong (due_of_end (end_of goal.Run (lines input)))) h
-
-due_within : (input : List ℕ) → is_over input ≡ false → due run_words input ≡ due_of_end (end_of goal.Run (lines input))
-unfolding due
-due_within input h = ap (λ b. cond b Due.TooLong (due_of_end (end_of goal.Run (lines input)))) h
-
--- an input that is not within its limits, and one that is
-pub over : (input : List ℕ) → false ≡ not (is_over input) → is_over input ≡ true
-over input h = by_test (is_over input) h where
-  by_test : (b : Bool) → false ≡ not b → b ≡ true
-  by_test true h = refl
-  by_test false h = cc
-
-pub not_over : (input : List ℕ) → true ≡ not (is_over input) → is_over input ≡ false
-not_over input h = by_test (is_over input) h where
-  by_test : (b : Bool) → true ≡ not b → b ≡ false
-  by_test true h = cc
-  by_test false h = refl
-
-few_lines : (most_bytes most_lines bytes lines : ℕ) → (ltb most_bytes bytes || ltb most_lines lines) ≡ false → lines ≤ most_lines
-few_lines m n a b h = grind (arith, nat_tests)
-
-pub lines_within : (input : List ℕ) → is_over input ≡ false → length (lines input) ≤ MOST_LINES
-unfolding is_over
-lines_within input h = few_lines MOST_BYTES MOST_LINES (length input) (length (lines input)) h
-
-answer_is : (input text : List ℕ) (d : Due) → due run_words input ≡ d → text ≡ text_of_due d input → (status_of d ≡ status.Done → AreOfCall (ran input)) →
-    IsDueAnswer run_words input (status_of d) text
-unfolding due_text
-answer_is input text d h writes runs = record { ends = ap status_of (sym h); writes = writes ∙ ap (λ d. text_of_due d input) (sym h); runs = runs }
-
-pub too_long : (input text : List ℕ) → is_over input ≡ true → text ≡ codes "too-long\n" → IsDueAnswer run_words input status.TooLong text
-unfolding line_of
-too_long input text over h = answer_is input text Due.TooLong (due_over input over) h (λ e. cc)
-
-pub refused : (input old text : List ℕ) (line : ℕ) (reason : Reason) → is_over input ≡ false → EndsAs (end_of goal.Run (lines input)) (lines input) (Err (fault.Refused line reason)) →
-    old ≡ [] → text ≡ old ++ line_of (codes "refused" ∷ decimal line ∷ reason_word reason ∷ []) → IsDueAnswer run_words input (status.Refused line reason) text
-refused input old text line reason within ends none h = go (end_of goal.Run (lines input)) refl ends
-  where
-    go : (e : Ended) → end_of goal.Run (lines input) ≡ e → EndsAs e (lines input) (Err (fault.Refused line reason)) → IsDueAnswer run_words input (status.Refused line reason) text
-    go Ended.Done is ends = absurd ends
-    go (Ended.Refused number why) is ends =
-        answer_is input text (Due.Refused line reason)
-        (due_within input within ∙ ap due_of_end is ∙ ap (λ n. Due.Refused n why) (sym ends.0) ∙ ap (Due.Refused line) (sym ends.1))
-        (h ∙ ap (λ front. front ++ line_of (codes "refused" ∷ decimal line ∷ reason_word reason ∷ [])) none)
-        (λ e. cc)
-
--- the lines of an outcome are those of a whole call
-of_call : (input : Lines) (outcome : OutcomeParts) → end_of goal.Run input ≡ Ended.Done → IsOutcome input outcome → AreOfCall input
-unfolding profile
-of_call input outcome done is = record { done = done; assigned = is.assigned; drawn = is.drawn }
-
--- the text of the outcome of these lines
-told : (input : Lines) (outcome : OutcomeParts) → IsOutcome input outcome → outcome_text outcome ≡ report_of input
-unfolding report_of report
-told input outcome is = ap outcome_text is.value
-
-pub done : (input old text : List ℕ) (outcome : OutcomeParts) → is_over input ≡ false → EndsAs (end_of goal.Run (lines input)) (lines input) (Ok outcome) → old ≡ [] →
-    text ≡ old ++ outcome_text outcome → IsDueAnswer run_words input status.Done text
-done input old text outcome within ends none report = go (end_of goal.Run (lines input)) refl ends
-  where
-    go : (e : Ended) → end_of goal.Run (lines input) ≡ e → EndsAs e (lines input) (Ok outcome) → IsDueAnswer run_words input status.Done text
-    go (Ended.Refused number why) is ends = absurd ends
-    go Ended.Done is ends = answer_is input text Due.Done (due_within input within ∙ ap due_of_end is) (report ∙ ap (λ front. front ++ outcome_text outcome) none ∙ told (lines input) outcome ends)
-        (λ e. of_call (lines input) outcome is ends)
-
--- what is due for bytes with which an input begins is due for it, where they are all or are over the limits
-same_answer : (input bytes rest text : List ℕ) (s : Status) → input ≡ bytes ++ rest → (rest ≢ [] → is_over bytes ≡ true) → IsDueAnswer run_words bytes s text → IsDueAnswer run_words input s text
-unfolding due_text
-same_answer input bytes [] text s parts enough answer = subst (λ all. IsDueAnswer run_words all s text) (sym (parts ∙ append-nil bytes)) answer
-same_answer input bytes (x ∷ rest) text s parts enough answer =
-    let over : is_over bytes ≡ true = enough (λ none. cc) in
-    let input_over : is_over input ≡ true = ap is_over parts ∙ over_stays bytes (x ∷ rest) over in
-    let status_is : s ≡ status.TooLong = answer.ends ∙ ap status_of (due_over bytes over) in
-    let writes : text ≡ text_of_due Due.TooLong bytes = answer.writes ∙ ap (λ d. text_of_due d bytes) (due_over bytes over) in
-    subst (λ s. IsDueAnswer run_words input s text) (sym status_is) (answer_is input text Due.TooLong (due_over input input_over) writes (λ e. cc))
-
-pub answer_for : (words : List Text) (input bytes rest text : List ℕ) (s : Status) → is_run words ≡ true → Reads input bytes rest → IsDueAnswer run_words bytes s text → IsDueAnswer words input s text
-unfolding due_text
-answer_for words input bytes rest text s run reads answer =
-    let same = same_answer input bytes rest text s reads.parts reads.enough answer in
-    let d = due_of_run words input run in
-    record { ends = same.ends ∙ ap status_of (sym d); writes = same.writes ∙ ap (λ d. text_of_due d input) (sym d); runs = same.runs }
-
--- an input to the word `run` is never due a usage
-usage_of_end : (e : Ended) → status_of (due_of_end e) ≢ status.Usage
-usage_of_end Ended.Done h = cc
-usage_of_end (Ended.Refused line reason) h = cc
-
-pub not_usage : (bytes text : List ℕ) (s : Status) → IsDueAnswer run_words bytes s text → s ≢ status.Usage
-not_usage bytes text s answer h = go (is_over bytes) refl
-  where
-    go : (b : Bool) → is_over bytes ≡ b → ⊥
-    go true over = let e = ap status_of (sym (due_over bytes over)) ∙ sym answer.ends ∙ h in cc
-    go false within = usage_of_end (end_of goal.Run (lines bytes)) (ap status_of (sym (due_within bytes within)) ∙ sym answer.ends ∙ h)
+due_by words input asked h = ap (λ asked. option_map_or (λ asked. due_of_form asked input) asked Due.Usage) h
 
 pub is_due : (d : Due) (s : Status) → s ≡ status_of d → IsDue d s
 is_due d status.Done h = h
 is_due d status.Usage h = h
 is_due d (status.Refused line reason) h = h
+is_due d status.Short h = h
 is_due d status.ReadFault h = tt
 is_due d status.WriteFault h = tt
 is_due d status.Memory h = tt
 is_due d status.TooLong h = h
 
--- a call that reads and writes nothing gives the empty text
-pub usage_text : (words : List Text) (input : List ℕ) (given : Option (List ℕ)) → is_run words ≡ false → AppendsWhereTold given given (due_text words input)
-unfolding due_text
-usage_text words input given h = subst (λ d. AppendsWhereTold given given (text_of_due d input)) (sym (due_of_other_words words input h)) (AppendsWhereTold-refl given)
-
+-- what holds of every input holds of one that is told
 pub for_told : {P : List ℕ → Type 0} (told : Option (List ℕ)) → ((bytes : List ℕ) → P bytes) → IfSome told P
 for_told None h = tt
 for_told (Some bytes) h = h bytes
 
--- the answer to what was read, at each input that the source tells
-pub answered : (words : List Text) (told left : Option (List ℕ)) (bytes read text : List ℕ) (s : Status) → is_run words ≡ true → ReadsWhereTold told left bytes → read ≡ bytes →
-    IsDueAnswer run_words read s text → IfSome told (λ input. IsDueAnswer words input s text)
-answered words None left bytes read text s run reads same answer = tt
-answered words (Some input) None bytes read text s run reads same answer = absurd reads
-answered words (Some input) (Some rest) bytes read text s run reads same answer = answer_for words input bytes rest text s run reads (subst (λ bytes. IsDueAnswer run_words bytes s text) same answer)
+-- the word `run` asks for the report
+pub run_asks : form_of run_words ≡ Some (form.Input goal.Run)
+unfolding form_of
+run_asks = refl
+
+same_goal : (g h : Goal) → Some (form.Input g) ≡ Some (form.Input h) → g ≡ h
+same_goal g h e = cc
+
+pub goal_of_run : (words : List Text) (g : Goal) → words ≡ run_words → form_of words ≡ Some (form.Input g) → g ≡ goal.Run
+goal_of_run words g run asks = same_goal g goal.Run (sym asks ∙ ap form_of run ∙ run_asks)
+
+pub one_goal : (words : List Text) (g h : Goal) → form_of words ≡ Some (form.Input g) → form_of words ≡ Some (form.Input h) → g ≡ h
+one_goal words g h a b = same_goal g h (sym a ∙ b)
+
+-- Shortages.
+
+short_due : (d : Due) → status_of d ≡ status.Short → d ≡ Due.Short
+short_due Due.Done h = absurd (let wrong : ⊥ = cc in wrong)
+short_due Due.Usage h = absurd (let wrong : ⊥ = cc in wrong)
+short_due (Due.Refused line reason) h = absurd (let wrong : ⊥ = cc in wrong)
+short_due Due.Short h = refl
+short_due Due.TooLong h = absurd (let wrong : ⊥ = cc in wrong)
+
+short_end : (e : Ended) → due_of_end e ≡ Due.Short → e ≡ Ended.Short
+short_end Ended.Done h = absurd (let wrong : ⊥ = cc in wrong)
+short_end (Ended.Refused line reason) h = absurd (let wrong : ⊥ = cc in wrong)
+short_end Ended.Short h = refl
+short_end Ended.Settled h = absurd (let wrong : ⊥ = cc in wrong)
+
+not_long : (b : Bool) (e : Ended) → cond b Due.TooLong (due_of_end e) ≡ Due.Short → e ≡ Ended.Short
+not_long true e h = absurd (let wrong : ⊥ = cc in wrong)
+not_long false e h = short_end e h
+
+short_outcome : (g : Goal) (input : Text) → outcome g input ≡ Due.Short → end_of g (heard input) ≡ Ended.Short
+short_outcome g input h = not_long (is_over input && not (ends_run g (heard input))) (end_of g (heard input)) (sym (outcome_by g input (is_over input) (ends_run g (heard input)) refl refl) ∙ h)
+
+pub comes_short : (g : Goal) (input : Text) (s : Status) (text : List ℕ) → IsDueAnswer g input s text → s ≡ status.Short → ComesShort g (looked_at g (heard input))
+comes_short g input s text answer short =
+    (shortage-ends g (heard input)).0 (short_outcome g input (short_due (outcome g input) (sym answer.ends ∙ short)))
+
+-- an input whose lines come short is told to be so
+pub told_short : (g : Goal) (input : Text) (s : Status) (text : List ℕ) → IsDueAnswer g input s text → ComesShort g (looked_at g (heard input)) → IsShortOrFault s
+told_short g input s text answer comes =
+    let end = (shortage-ends g (heard input)).1 comes in
+    let due_is : outcome g input ≡ Due.Short =
+    outcome_by g input (is_over input) true refl (ends_short_of g (heard input) end) ∙ never_over (is_over input) Due.TooLong (due_of_end (end_of g (heard input))) ∙ ap due_of_end end in
+    subst IsShortOrFault (sym (answer.ends ∙ ap status_of due_is)) tt
+
+-- Where the source tells its bytes.
+
+-- what the words ask for has a goal
+pub input_goal : (f : Form) → f ≡ form.Input (values_d the_form 0 (goal.Run, tt {0}) f).0
+input_goal (form.Input g) = refl
+
+pub due_told : (words : List Text) (told : Option Text) (g : Goal) (s : Status) (text : List ℕ) → form_of words ≡ Some (form.Input g) → IfSome told (λ input. IsDueAnswer g input s text) →
+    IfSome told (λ input. s ≡ status_of (due words input))
+due_told words told g s text asks answers =
+    IfSome_then told answers (λ input answer. answer.ends ∙ ap status_of (sym (due_by words input (Some (form.Input g)) asks)))
+
+pub call_told : (words : List Text) (told : Option Text) (g : Goal) (s : Status) (text : List ℕ) → form_of words ≡ Some (form.Input g) → words ≡ run_words → s ≡ status.Done →
+    IfSome told (λ input. IsDueAnswer g input s text) → IfSome told (λ input. AreOfCall (heard input))
+call_told words told g s text asks run done answers = IfSome_then told answers (λ input answer. answer.of_call (goal_of_run words g run asks) done)
+
+pub short_told : (words : List Text) (told : Option Text) (g h : Goal) (s : Status) (text : List ℕ) → form_of words ≡ Some (form.Input g) → s ≡ status.Short → form_of words ≡ Some (form.Input h) →
+    IfSome told (λ input. IsDueAnswer g input s text) → IfSome told (λ input. ComesShort h (looked_at h (heard input)))
+short_told words told g h s text asks short also answers =
+    IfSome_then told answers (λ input answer. subst (λ g. ComesShort g (looked_at g (heard input))) (one_goal words g h asks also) (comes_short g input s text answer short))
+
+pub shortage_told : (words : List Text) (told : Option Text) (g h : Goal) (s : Status) (text : List ℕ) → form_of words ≡ Some (form.Input g) → form_of words ≡ Some (form.Input h) →
+    IfSome told (λ input. IsDueAnswer g input s text) → IfSome told (λ input. ComesShort h (looked_at h (heard input)) → IsShortOrFault s)
+shortage_told words told g h s text asks also answers =
+    IfSome_then told answers (λ input answer comes. told_short g input s text answer (subst (λ g. ComesShort g (looked_at g (heard input))) (sym (one_goal words g h asks also)) comes))
+
+pub text_told : (words : List Text) (told : Option Text) (g : Goal) (s : Status) (text : List ℕ) → form_of words ≡ Some (form.Input g) → IfSome told (λ input. IsDueAnswer g input s text) →
+    IfSome told (λ input. IsDueText words input text)
+text_told words told g s text asks answers =
+    IfSome_then told answers (λ input answer. subst (λ asked. MatchOption asked (text ≡ []) (λ asked. IsTextOfForm asked input text)) (sym asks) answer.writes)

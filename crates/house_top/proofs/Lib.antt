@@ -1,4 +1,11 @@
-pub mod LineLemmas
-pub mod InputLemmas
-pub mod StopLemmas
+pub mod AnswerLemmas
 pub mod CallLemmas
+pub mod CutLemmas
+pub mod DecidedLemmas
+pub mod EndLemmas
+pub mod FrontLemmas
+pub mod HearLemmas
+pub mod InputLemmas
+pub mod LineLemmas
+pub mod PairLemmas
+pub mod TellLemmas

@@ -1,11 +1,9 @@
 -- How many lines a text has.
-use Rattle.std.proofs.Common.{◌≡◌, ℕ, suc, ◌<◌, ◌≤◌, Bool, true, false, ltb, eqb, ◌||◌, List, [], ◌∷◌, ◌++◌, length, refl, ap, ◌∙◌, arith, max, length-append}
+use Rattle.std.proofs.Common.{◌≡◌, ℕ, suc, ◌<◌, ◌≤◌, Bool, true, false, eqb, List, [], ◌∷◌, length, refl, ap, ◌∙◌, arith, max}
 use Rattle.std.specs.List.{slice_split, onto_first}
-use Rattle.std.proofs.lemmas.Bool.Decides.{nat_tests}
 use Rattle.std.proofs.lemmas.List.{length-map}
 use Rattle.std.proofs.lemmas.List.Splits.{slice_split-cons_yes, slice_split-cons_no, length-slice_split}
 use Rattle.house_model.specs.Text.{Text, lines, without_return, without_last_empty}
-use Rattle.house_model.specs.Heard.{is_over}
 
 -- whether a byte ends a line
 abbrev pub is_feed : ℕ → Bool
@@ -49,27 +47,10 @@ count_at_other : (x : ℕ) (xs : List ℕ) → is_feed x ≡ false → count_of 
 unfolding count_of
 count_at_other x xs h = ap count (slice_split-cons_no is_feed x xs h) ∙ count_onto x (slice_split is_feed xs)
 
-one_more : (b : Bool) (x : ℕ) (xs ys : List ℕ) → is_feed x ≡ b → count_of xs ≤ count_of ys → count_of (x ∷ xs) ≤ count_of (x ∷ ys)
-one_more true x xs ys h more = omega (arith, count_at_feed x xs h, count_at_feed x ys h)
-one_more false x xs ys h more = omega (arith, count_at_other x xs h, count_at_other x ys h)
-
-none_counted : count_of [] ≡ 0
-unfolding count_of count
-none_counted = refl
-
--- more bytes have no fewer lines
-count_more : (xs ys : List ℕ) → count_of xs ≤ count_of (xs ++ ys)
-count_more [] ys = rw none_counted (omega arith)
-count_more (x ∷ xs) ys = one_more (is_feed x) x xs (xs ++ ys) refl (count_more xs ys)
-
-pub lines_more : (xs ys : List ℕ) → length (lines xs) ≤ length (lines (xs ++ ys))
-lines_more xs ys = omega (arith, counted xs, counted (xs ++ ys), count_more xs ys)
-
-over_more : (most_bytes most_lines bytes lines more_bytes more_lines : ℕ) → bytes ≤ more_bytes → lines ≤ more_lines →
-    (ltb most_bytes bytes || ltb most_lines lines) ≡ true → (ltb most_bytes more_bytes || ltb most_lines more_lines) ≡ true
-over_more m n a b c d h g e = grind (arith, nat_tests)
-
--- what is over the limits stays so with more bytes
-pub over_stays : (xs ys : List ℕ) → is_over xs ≡ true → is_over (xs ++ ys) ≡ true
-unfolding is_over
-over_stays xs ys h = over_more _ _ (length xs) (length (lines xs)) (length (xs ++ ys)) (length (lines (xs ++ ys))) (simp length-append (omega arith)) (lines_more xs ys) h
+-- a text that has a byte has a line
+pub lines-some : (xs : List ℕ) → 0 < length xs → 1 ≤ length (lines xs)
+lines-some [] h = absurd (omega arith)
+lines-some (x ∷ xs) h = by_byte (is_feed x) refl where
+  by_byte : (b : Bool) → is_feed x ≡ b → 1 ≤ length (lines (x ∷ xs))
+  by_byte true e = omega (arith, counted (x ∷ xs), count_at_feed x xs e)
+  by_byte false e = omega (arith, counted (x ∷ xs), count_at_other x xs e)

@@ -7,6 +7,7 @@ abbrev pub exit_of : Status → ℕ
 exit_of status.Done = 0
 exit_of status.Usage = 1
 exit_of (status.Refused line reason) = 2
+exit_of status.Short = 3
 exit_of status.ReadFault = 4
 exit_of status.WriteFault = 5
 exit_of status.Memory = 6

@@ -1,3 +1,4 @@
 pub mod Call
 pub mod Exit
+pub mod Hearing
 pub mod Input

@@ -1,19 +1,21 @@
-//! Input, read to its end.
+//! Input, read and heard as it comes.
 
-ghost use Rattle.std.specs.Prelude.{◌≡◌, ◌≤◌, IfOk, IfErr, IsErrOf, vec_len, true, false};
+ghost use Rattle.std.specs.Prelude.{◌≡◌, ◌≤◌, IfOk, OnOk, IsErrOf, vec_len};
 ghost use Rattle.house_io.specs.Faults.{Rose};
-ghost use Rattle.house_model.specs.Heard.{is_over};
-ghost use Rattle.house_top.specs.Input.{ReadsWhereTold, WithinWhereTold};
+ghost use Rattle.house_top.specs.Hearing.{HearsWhereTold};
+ghost use Rattle.house_top.specs.Input.{DecidedWhereTold, UndecidedWhereTold};
 
-use command_text::within;
+use crate::hearing::{Hearing, Progress};
+use house_base::Memory;
+use house_core::House;
 use house_io::Source;
-use house_model::limits::MOST_BYTES;
+use house_model::Goal;
 use std::alloc::{AllocError, Global};
 
 /// How many bytes are asked for at once.
 const PIECE: usize = 65_536;
 
-/// Why an input was not read.
+/// Why an input was not heard.
 #[derive(Clone, Copy, Debug, PartialEq, Eq)]
 pub enum InputFault {
     /// The source failed.
@@ -33,35 +35,49 @@ impl From<AllocError> for InputFault {
     }
 }
 
-/// Reads an input to its end, or until what was read is over the limits.
-pub fn read_all<I: Source>(alloc: Global, input: &mut I) -> Result<Vec<u8>, InputFault>
-    ensures read { IfOk result (λ bytes. ReadsWhereTold (I.left input.old) (I.left input.new) bytes.items) }
-    ensures failed { IsErrOf result InputFault.Failed → Rose (I.faults input.old) (I.faults input.new) }
-    ensures within { IsErrOf result InputFault.Failed → WithinWhereTold (I.left input.old) (I.left input.new) }
-    ensures never_falls { I.faults input.old ≤ I.faults input.new }
-{
-    let mut bytes = Vec::new(alloc);
-    let mut piece = zeros(alloc, PIECE)?;
-    let buffer = piece.as_mut_slice();
-    while bytes.len() <= MOST_BYTES {
-        match input.take(buffer) {
-            Ok(0) => break,
-            Ok(count) => bytes.extend_from_slice(&buffer[..count])?,
-            Err(_) => return failed(bytes),
-        }
+impl From<Memory> for InputFault {
+    ghost use Rattle.std.specs.Prelude.{◌≡◌};
+    ghost use Rattle.house_top.specs.declared.input.InputFault.TheVariants as fault;
+
+    ghost from_gives = { λ _ why. why ≡ fault.Memory };
+
+    fn from(_: Memory) -> Self {
+        InputFault::Memory
     }
-    Ok(bytes)
 }
 
-/// What is answered where the source failed behind these bytes. Bytes that are over the limits are enough.
-fn failed(bytes: Vec<u8>) -> Result<Vec<u8>, InputFault>
-    ensures over { IfOk result (λ same. (same.items ≡ bytes.items) × (is_over same.items ≡ true)) }
-    ensures within { IfErr result (λ why. (why ≡ InputFault.Failed) × (is_over bytes.items ≡ false)) }
+/// What was heard of an input.
+#[derive(Drop)]
+pub enum Heard {
+    /// The run at the line that ends it, or at the end of the input.
+    Lines(House),
+    /// The input is over its limits, and no line within them ends the run.
+    TooLong,
+}
+
+/// Hears an input in pieces, up to the line that ends the run, to the end of the limits or to its own end.
+pub fn hear_input<I: Source>(alloc: Global, goal: Goal, input: &mut I) -> Result<Heard, InputFault>
+    ensures heard { IfOk result (λ heard. HearsWhereTold goal (I.left input.old) (I.left input.new) heard) }
+    ensures decided { OnOk result (DecidedWhereTold goal (I.left input.old) (I.left input.new)) }
+    ensures failed { IsErrOf result InputFault.Failed → Rose (I.faults input.old) (I.faults input.new) }
+    ensures undecided { IsErrOf result InputFault.Failed →
+        UndecidedWhereTold goal (I.left input.old) (I.left input.new) }
+    ensures never_falls { I.faults input.old ≤ I.faults input.new }
 {
-    if within(&bytes) {
-        Err(InputFault::Failed)
-    } else {
-        Ok(bytes)
+    let mut hearing = Hearing::new(alloc, goal);
+    let mut piece = zeros(alloc, PIECE)?;
+    let buffer = piece.as_mut_slice();
+    'pieces: loop {
+        match input.take(buffer) {
+            Ok(0) => return Ok(Heard::Lines(hearing.finish()?)),
+            Ok(count) => match hearing.hear(&buffer[..count]) {
+                Progress::Going => {}
+                Progress::Ended => return Ok(Heard::Lines(hearing.house)),
+                Progress::Over => return Ok(Heard::TooLong),
+                Progress::Memory => return Err(InputFault::Memory),
+            },
+            Err(_) => return Err(InputFault::Failed),
+        }
     }
 }
 

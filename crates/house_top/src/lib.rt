@@ -2,12 +2,16 @@
 
 #![tactic(auto)]
 
-pub mod input;
-pub mod output;
-pub mod run;
-pub mod status;
+mod answer;
+mod call;
+mod hearing;
+mod input;
+mod output;
+mod run;
+mod status;
 #[cfg(test)]
 mod tests;
+mod words;
 
-pub use run::house;
+pub use call::house;
 pub use status::Status;

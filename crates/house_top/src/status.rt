@@ -8,12 +8,14 @@ use house_base::Reason;
 /// How a call ended.
 #[derive(Clone, Copy, Debug, PartialEq, Eq)]
 pub enum Status {
-    /// The report is written whole.
+    /// What was asked for is written whole.
     Done,
     /// The words are of no form.
     Usage,
     /// The line of this number, counted from 1, is refused, or the end of the input is.
     Refused(u64, Reason),
+    /// No valid assignment exists.
+    Short,
     /// The input could not be read.
     ReadFault,
     /// The output could not be written.
@@ -33,6 +35,7 @@ impl Status {
             Status::Done => 0,
             Status::Usage => 1,
             Status::Refused(_, _) => 2,
+            Status::Short => 3,
             Status::ReadFault => 4,
             Status::WriteFault => 5,
             Status::Memory => 6,

@@ -2,7 +2,7 @@
 
 use crate::{Status, house};
 use house_base::Reason;
-use house_io::{InputSource, MapShelf, OutputSink, PlainSink, PlainSource};
+use house_io::{InputSource, MapShelf, OutputSink, TextSink, TextSource};
 use std::alloc::{AllocError, Global};
 use std::io::{self, Read, Write};
 use std::test::Fail;
@@ -38,6 +38,54 @@ applicant d cluster 2 rank 2 cents 1000000 chance 0/4000000 no
 empty 0
 ";
 
+const SIX_APPLICANTS: &str = "call 2 3 2
+applicant a
+applicant b
+applicant c
+applicant d
+applicant e
+applicant f
+place a 1
+place b 2
+place c 3
+place d 1
+place e 2
+place f 3
+assign
+hello
+";
+
+const PAIRS: &str = "pair a b
+pair a c
+pair b c
+pair b d
+pair c d
+pair c e
+pair d e
+pair d f
+pair e f
+pair e a
+pair f a
+pair f b
+";
+
+const ONE_AGAINST_THREE: &str = "call 1 2 1
+applicant a
+applicant b
+applicant c
+applicant d
+place a 1
+place b 2
+place c 2
+place d 2
+assign
+";
+
+const SHORTAGE: &str = "short allowed 0 needed 2
+reviewers b c d
+proposals b c d
+";
+
 /// How a call ended, and what it wrote.
 #[derive(Debug, PartialEq, Eq, Drop)]
 struct Ended {
@@ -53,21 +101,47 @@ fn texts(alloc: Global, words: &[&str]) -> Result<Vec<String>, AllocError> {
     Ok(texts)
 }
 
-fn call(alloc: Global, words: &[&str], input: &str) -> Result<Ended, Fail> {
+/// A call whose input and output pass at most so many bytes at once, and fail at the calls of these numbers.
+fn call_in_pieces(
+    alloc: Global,
+    words: &[&str],
+    input: Vec<u8>,
+    piece: usize,
+    failing_take: u64,
+    failing_give: u64,
+) -> Result<Ended, Fail> {
     let words = texts(alloc, words)?;
-    let mut input = PlainSource::new(input.as_bytes().to_vec(alloc)?);
-    let mut output = PlainSink::with_room(alloc, 4096)?;
+    let mut input = TextSource::new(input, piece.max(1), [failing_take].to_vec(alloc)?);
+    let mut output = TextSink::new(alloc, 4096, piece.max(1), [failing_give].to_vec(alloc)?)?;
     let mut shelf = MapShelf::new(Vec::new(alloc));
     let status = house(alloc, &words, &mut input, &mut output, &mut shelf);
     let text = String::from_utf8(output.given().to_vec(alloc)?)?;
     Ok(Ended { status, text })
 }
 
+fn call(alloc: Global, words: &[&str], input: &str) -> Result<Ended, Fail> {
+    call_in_pieces(alloc, words, input.as_bytes().to_vec(alloc)?, 4096, 0, 0)
+}
+
 #[test]
-fn writes_the_report(rt: HostRuntime) -> Result<(), Fail> {
-    let ended = call(rt.alloc(), &["run"], FOUR_APPLICANTS)?;
-    assert_eq!(rt; ended.status, Status::Done);
-    assert_eq!(rt; ended.text.as_str(), REPORT);
+fn answers_the_same_in_all_pieces(rt: HostRuntime) -> Result<(), Fail> {
+    let alloc = rt.alloc();
+    let calls = [
+        ("run", FOUR_APPLICANTS, Status::Done, REPORT),
+        ("pairs", SIX_APPLICANTS, Status::Done, PAIRS),
+        ("feasible", SIX_APPLICANTS, Status::Done, "feasible\n"),
+        ("run", ONE_AGAINST_THREE, Status::Short, SHORTAGE),
+        ("pairs", ONE_AGAINST_THREE, Status::Short, SHORTAGE),
+        ("feasible", ONE_AGAINST_THREE, Status::Short, SHORTAGE),
+    ];
+    for (word, input, status, text) in calls {
+        for piece in [1, 7, 4096] {
+            let bytes = input.as_bytes().to_vec(alloc)?;
+            let ended = call_in_pieces(alloc, &[word], bytes, piece, 0, 0)?;
+            assert_eq!(rt; ended.status, status, "at {word} in pieces of {piece}");
+            assert_eq!(rt; ended.text.as_str(), text, "at {word} in pieces of {piece}");
+        }
+    }
     Ok(())
 }
 
@@ -91,12 +165,6 @@ fn refuses(rt: HostRuntime) -> Result<(), Fail> {
             Reason::Name,
             "refused 2 name\n",
         ),
-        (
-            "call 1 2 1\npartition 7\n",
-            2,
-            Reason::Later,
-            "refused 2 later\n",
-        ),
         ("", 1, Reason::NoCall, "refused 1 no-call\n"),
     ];
     for (input, line, reason, text) in calls {
@@ -115,6 +183,22 @@ fn knows_its_words(rt: HostRuntime) -> Result<(), Fail> {
         assert_eq!(rt; ended.status, Status::Usage, "at {words:?}");
         assert_eq!(rt; ended.text.as_str(), "", "at {words:?}");
     }
+    Ok(())
+}
+
+#[test]
+fn stops_reading_where_the_run_ends(rt: HostRuntime) -> Result<(), Fail> {
+    let alloc = rt.alloc();
+    let mut flood = b"hello\n".to_vec(alloc)?;
+    flood.resize(16_777_222, b'#')?;
+    let ended = call_in_pieces(alloc, &["run"], flood, 65_536, 0, 0)?;
+    assert_eq!(rt; ended.status, Status::Refused(1, Reason::NoCall));
+    let ended = call_in_pieces(alloc, &["run"], b"hello\n".to_vec(alloc)?, 6, 2, 0)?;
+    assert_eq!(rt; ended.status, Status::Refused(1, Reason::NoCall));
+    let over = vec![in alloc; b'#'; 16_777_217]?;
+    let ended = call_in_pieces(alloc, &["run"], over, 65_536, 0, 0)?;
+    assert_eq!(rt; ended.status, Status::TooLong);
+    assert_eq!(rt; ended.text.as_str(), "too-long\n");
     Ok(())
 }
 
@@ -140,14 +224,20 @@ impl Write for Broken {
 
 #[test]
 fn tells_faults(rt: HostRuntime) -> Result<(), Fail> {
-    let words = texts(rt.alloc(), &["run"])?;
-    let mut shelf = MapShelf::new(Vec::new(rt.alloc()));
+    let alloc = rt.alloc();
+    let four = FOUR_APPLICANTS.as_bytes();
+    let ended = call_in_pieces(alloc, &["run"], four.to_vec(alloc)?, 8, 2, 0)?;
+    assert_eq!(rt; ended.status, Status::ReadFault);
+    assert_eq!(rt; ended.text.as_str(), "");
+    let ended = call_in_pieces(alloc, &["run"], four.to_vec(alloc)?, 10, 0, 3)?;
+    assert_eq!(rt; ended.status, Status::WriteFault);
+    assert_eq!(rt; ended.text.as_str(), "call 2 2 1\napplicant");
+
+    let words = texts(alloc, &["run"])?;
+    let mut shelf = MapShelf::new(Vec::new(alloc));
     let mut unread = InputSource::new(Broken);
     let mut output = OutputSink::new(Broken);
-    let status = house(rt.alloc(), &words, &mut unread, &mut output, &mut shelf);
+    let status = house(alloc, &words, &mut unread, &mut output, &mut shelf);
     assert_eq!(rt; status, Status::ReadFault);
-    let mut empty = PlainSource::new(Vec::new(rt.alloc()));
-    let status = house(rt.alloc(), &words, &mut empty, &mut output, &mut shelf);
-    assert_eq!(rt; status, Status::WriteFault);
     Ok(())
 }

@@ -1,0 +1,170 @@
+//! A run that hears its input in pieces.
+
+use command_text::Cutter;
+use house_base::{Memory, Phase};
+use house_core::{House, Step};
+use house_model::Goal;
+use house_model::limits::{MOST_BYTES, MOST_LINES};
+use std::alloc::Global;
+
+/// How far a run has come with a piece of its input.
+#[derive(Clone, Copy, Debug, PartialEq, Eq)]
+pub enum Progress {
+    /// The piece was heard, and the run goes on.
+    Going,
+    /// A line of it has ended the run.
+    Ended,
+    /// The input is over its limits, and no line within them ends the run.
+    Over,
+    /// No memory was left.
+    Memory,
+}
+
+/// A run, and what it has heard of its input. No line is kept but the one that has begun.
+#[derive(Drop)]
+pub struct Hearing {
+    pub goal: Goal,
+    pub house: House,
+    pub cutter: Cutter,
+    /// How many bytes were heard.
+    pub bytes: usize,
+    /// How many lines have ended.
+    pub lines: usize,
+}
+
+impl Hearing {
+    ghost use Rattle.std.specs.Prelude.{◌≡◌, ◌≢◌, ℕ, ◌+◌, ◌<◌, ◌≤◌, ◌++◌, [], List, length, take, IfOk};
+    ghost use Rattle.house_model.specs.Text.{lines};
+    ghost use Rattle.house_model.specs.declared.goal.Goal.{Goal};
+    ghost use Rattle.house_model.specs.declared.limits.TheConstants.{MOST_BYTES, MOST_LINES};
+    ghost use Rattle.house_top.specs.Hearing.{Advances, HasHeard, HasLines, HearsPiece, TellsEnd};
+
+    /// A run that has heard nothing.
+    pub fn new(alloc: Global, goal: Goal) -> Hearing
+        ensures { HasHeard goal [] result }
+    {
+        Hearing {
+            goal,
+            house: House::new(alloc, goal),
+            cutter: Cutter::new(alloc),
+            bytes: 0,
+            lines: 0,
+        }
+    }
+
+    /// Hears a piece of the input, line by line, up to one that ends the run or to the end of the limits.
+    pub fn hear(&mut self, piece: &[u8]) -> Progress
+        ensures { (g : Goal) (heard : List ℕ) → HasHeard g heard self.old →
+            HearsPiece g heard piece.now result self.new }
+    {
+        let mut rest = piece;
+        while !rest.is_empty() {
+            if self.bytes >= MOST_BYTES || self.lines >= MOST_LINES {
+                return Progress::Over;
+            }
+            let most = rest.len().min(MOST_BYTES - self.bytes);
+            let (used, progress) = self.advance(&rest[..most]);
+            match progress {
+                Progress::Going => rest = &rest[used..],
+                _ => return progress,
+            }
+        }
+        Progress::Going
+    }
+
+    /// Hears some bytes of the input, up to the end of a line, and tells how many.
+    fn advance(&mut self, piece: &[u8]) -> (usize, Progress)
+        requires room { self.old.bytes + length piece.now ≤ MOST_BYTES }
+        requires lines { self.old.lines < MOST_LINES }
+        ensures used { result.0 ≤ length piece.now }
+        ensures some { 0 < length piece.now → result.1 ≡ Progress.Going → 0 < result.0 }
+        ensures advances { (g : Goal) (heard : List ℕ) → HasHeard g heard self.old →
+            Advances g (heard ++ take result.0 piece.now) result.1 self.new }
+    {
+        let Ok(fed) = self.cutter.feed(piece) else {
+            return (0, Progress::Memory);
+        };
+        self.bytes += fed.used;
+        let Some(line) = self.cutter.line() else {
+            return (fed.used, Progress::Going);
+        };
+        self.lines += 1;
+        (fed.used, take_line(self.goal, &mut self.house, line))
+    }
+
+    /// The run at the end of the input, whose last line no line feed need end.
+    pub fn finish(self) -> Result<House, Memory>
+        ensures { (g : Goal) (heard : List ℕ) → HasHeard g heard self →
+            IfOk result (λ house. HasLines g (lines heard) house × TellsEnd g heard [] (lines heard)) }
+    {
+        let Hearing {
+            goal,
+            mut house,
+            cutter,
+            bytes: _,
+            lines: _,
+        } = self;
+        match cutter.rest() {
+            Some(line) => match take_line(goal, &mut house, line) {
+                Progress::Memory => Err(Memory),
+                _ => Ok(house),
+            },
+            None => Ok(house),
+        }
+    }
+}
+
+ghost use Rattle.std.specs.Prelude.{◌≡◌, ◌≢◌, ◌^◌, ◌-◌, ◌<◌, ◌⊎◌, ◌&&◌, ◌++◌, ◌∷◌, [], false, length};
+ghost use Rattle.house_core.specs.House.{StandsFor};
+ghost use Rattle.house_model.specs.Ending.{in_force};
+ghost use Rattle.house_model.specs.Reviews.{is_before_assignment};
+ghost use Rattle.house_model.specs.Runs.{halt, settles};
+ghost use Rattle.house_model.specs.Said.{has};
+ghost use Rattle.house_model.specs.Text.{Lines};
+ghost use Rattle.house_model.specs.declared.verb.Verb.TheVariants as verb;
+ghost use Rattle.house_top.specs.Hearing.{GoOn, TakesLine};
+
+/// Gives a house its next line.
+fn take_line(goal: Goal, house: &mut House, line: &[u8]) -> Progress
+    ensures { (lines : Lines) → StandsFor goal lines house.old → GoOn goal lines → length lines < 2 ^ 64 - 1 →
+        TakesLine goal (lines ++ line.now ∷ []) result house.new }
+{
+    match house.line(line) {
+        Step::Going(_) => {
+            if is_settled(goal, house) {
+                Progress::Ended
+            } else {
+                Progress::Going
+            }
+        }
+        Step::Refused(_, _) => Progress::Ended,
+        Step::Short => Progress::Ended,
+        Step::Memory => Progress::Memory,
+    }
+}
+
+/// Whether an accepted assignment has reached the goal.
+pub fn is_settled(goal: Goal, house: &House) -> bool
+    ensures value { (lines : Lines) → StandsFor goal lines house.now →
+        result ≡ (settles goal && has verb.Assign (in_force (halt goal) lines)) }
+    ensures otherwise { result ≡ false → (goal ≡ Goal.Run) ⊎ (house.now.state.phase ≡ Phase.Opening) }
+{
+    settles(goal) && !is_opening(house.phase())
+}
+
+/// Whether a goal is reached by an assignment that is accepted.
+fn settles(goal: Goal) -> bool
+    ensures { result ≡ settles goal }
+{
+    match goal {
+        Goal::Run => false,
+        Goal::Pairs | Goal::Feasible => true,
+    }
+}
+
+/// Whether no assignment was accepted yet.
+fn is_opening(phase: Phase) -> bool
+    ensures { result ≡ is_before_assignment phase }
+{
+    matches!(phase, Phase::Opening)
+}

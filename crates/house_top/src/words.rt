@@ -1,0 +1,30 @@
+//! The words of a call of the program.
+
+ghost use Rattle.std.specs.Prelude.{◌≡◌, ◌∷◌, []};
+ghost use Rattle.house_model.specs.Due.{are_words, form_of};
+ghost use Rattle.house_top.specs.Call.{texts};
+
+use house_model::{Form, Goal};
+
+/// What the words ask for. None where they are of no form.
+#[tactic(auto, unfolding(house_model::specs::Due::form_of))]
+pub fn form_of(words: &Vec<String>) -> Option<Form>
+    ensures { result ≡ form_of (texts words.now.items) }
+{
+    if is_word(words, "run") {
+        Some(Form::Input(Goal::Run))
+    } else if is_word(words, "feasible") {
+        Some(Form::Input(Goal::Feasible))
+    } else if is_word(words, "pairs") {
+        Some(Form::Input(Goal::Pairs))
+    } else {
+        None
+    }
+}
+
+/// Whether the words are this one alone.
+fn is_word(words: &Vec<String>, word: &str) -> bool
+    ensures { result ≡ are_words (texts words.now.items) (word.now ∷ []) }
+{
+    words.len() == 1 && words[0].as_str() == word
+}

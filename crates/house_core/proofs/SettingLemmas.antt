@@ -1,16 +1,16 @@
 -- The setting that a state gives is that of its lines, whether a call was made or not.
-use Rattle.std.proofs.Common.{◌≡◌, ℕ, Bool, true, false, ◌||◌, cond, Option, Some, None, List, [], ◌∷◌, refl, sym, ap, ◌∙◌, inl, inr}
+use Rattle.std.proofs.Common.{◌≡◌, ℕ, Bool, true, false, Option, Some, None, List, [], ◌∷◌, refl, sym, ap}
 use Rattle.std.specs.Prelude.{find, MatchOption}
 use Rattle.std.specs.List.{list_any}
 use Rattle.std.specs.Option.{option_map_or}
-use Rattle.std.proofs.lemmas.Bool.{cases_Bool, or_parts, true≢false}
+use Rattle.std.proofs.lemmas.Bool.{or_parts}
 use Rattle.house_base.specs.declared.call.Call.{Call}
 use Rattle.house_model.specs.declared.verb.Verb.TheVariants as verb
 use Rattle.house_model.specs.Said.{has, call_number, number, register, seats_of, clusters_of, reviews_of, seed_of, setting}
-use Rattle.house_model.specs.Text.{Text, Lines, word}
+use Rattle.house_model.specs.Text.{Lines, word}
 use Rattle.house_model.specs.Verbs.{commands}
 use Rattle.house_core.specs.declared.state.State.{State}
-use Rattle.house_core.specs.Standing.{Says, seats_in, clusters_in, reviews_in, setting_in}
+use Rattle.house_core.specs.Standing.{Says, setting_in}
 use Rattle.house_core.proofs.SameRegisterLemmas.{setting-same}
 
 none_found : {A : Type 0} (test : A → Bool) (xs : List A) → list_any test xs ≡ false → find test xs ≡ None

@@ -1,21 +1,18 @@
 -- A house that ended for the want of a valid assignment.
-use Rattle.std.proofs.Common.{◌≡◌, ℕ, Bool, true, false, ◌||◌, Option, Some, None, length, refl, sym, ap, subst, ◌∙◌}
-use Rattle.std.specs.Prelude.{IfSome, MatchOption}
+use Rattle.std.proofs.Common.{◌≡◌, Bool, true, Some, ap, subst}
+use Rattle.std.specs.Prelude.{IfSome}
 use Rattle.std.specs.Option.{option_map_or}
 use Rattle.std.proofs.lemmas.Bool.{or_right}
-use Rattle.cut_gap.specs.Cut.{Sides, marked}
-use Rattle.house_base.specs.Setting.{Setting, size}
 use Rattle.house_model.specs.declared.goal.Goal.{Goal}
 use Rattle.house_model.specs.declared.verb.Verb.TheVariants as verb
 use Rattle.house_model.specs.Ending.{in_force}
 use Rattle.house_model.specs.Runs.{halt}
 use Rattle.house_model.specs.Said.{has, setting}
-use Rattle.house_model.specs.Shortage.{IsShortage, assignment_demand}
 use Rattle.house_model.specs.Text.{Lines}
 use Rattle.house_core.specs.declared.round.Shortage.{Shortage}
 use Rattle.house_core.specs.declared.round.Stop.TheVariants as stop
 use Rattle.house_core.specs.House.{Standing, StandsFor, IsShown, fell_short, has_setting, is_shortage}
-use Rattle.house_core.specs.Standing.{IsShortageOf, Says, setting_in}
+use Rattle.house_core.specs.Standing.{IsShortageOf, setting_in}
 use Rattle.house_core.proofs.SettingLemmas.{setting_says}
 
 pub shown_here : (inside seen : Standing) → inside ≡ seen → IfSome inside.stop (IsShown inside.state) → IfSome seen.stop (IsShown seen.state)
@@ -33,6 +30,6 @@ shows_short h x stopped = ap (λ o. option_map_or is_shortage o Bool.false) stop
 
 -- so its plan is that setting
 pub plan_short : (g : Goal) (lines : Lines) (h : Standing) (x : Shortage) → StandsFor g lines h → IfSome h.stop (IsShown h.state) → h.stop ≡ Some (stop.Short x) →
-    (has_setting (in_force (halt g) lines) h ≡ true) × (x.plan ≡ setting (in_force (halt g) lines))
+    (has_setting (in_force (halt g) lines) h ≡ true) × (x.plan.value ≡ setting (in_force (halt g) lines))
 plan_short g lines h x is shown stopped =
     (or_right (has verb.Assign (in_force (halt g) lines)) (fell_short h) (shows_short h x stopped), (shown_shortage g lines h x is shown stopped).plan)

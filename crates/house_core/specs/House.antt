@@ -1,4 +1,4 @@
-use Rattle.std.specs.Prelude.{◌≡◌, ℕ, ◌+◌, ◌<◌, Bool, ◌||◌, Option, Some, None, IfSome, is_some, length}
+use Rattle.std.specs.Prelude.{◌≡◌, ℕ, ◌+◌, ◌<◌, Bool, ◌||◌, Option, Some, None, length}
 use Rattle.std.specs.Option.{option_map_or}
 use Rattle.house_base.specs.Answer.{raised}
 use Rattle.house_base.specs.declared.answer.Took.{Took}

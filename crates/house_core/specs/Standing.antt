@@ -163,7 +163,7 @@ pub record IsSilentRound (s : State) (r : Round) : Type 0 where
 
 -- the shortage of a setting
 pub record IsShortageOf (s : Setting) (shortage : Shortage) : Type 0 where
-  pub plan : shortage.plan ≡ s
+  pub plan : shortage.plan.value ≡ s
   pub reviewers : length shortage.cut.reviewers ≡ size s
   pub proposals : length shortage.cut.proposals ≡ size s
   pub printed : IsShortage (assignment_demand s) (marked shortage.cut.reviewers) (marked shortage.cut.proposals)

@@ -1,6 +1,6 @@
 //! The assignment with which the reviews begin.
 
-ghost use Rattle.std.specs.Prelude.{◌≡◌, ◌≢◌, ◌≤◌, None, OnOk, OnErr, IfOk, IfErr, IfSome, IsTrue, true};
+ghost use Rattle.std.specs.Prelude.{◌≡◌, ◌≢◌, ◌≤◌, None, OnOk, OnErr, IfOk, IfErr, IfSome, IsTrue, true, false, length};
 ghost use Rattle.house_base.specs.Grid.{cell};
 ghost use Rattle.house_base.specs.Setting.{size};
 ghost use Rattle.house_model.specs.declared.command.Command.TheVariants as command;
@@ -10,6 +10,8 @@ ghost use Rattle.house_model.specs.Naming.{HasNamesOf};
 ghost use Rattle.house_model.specs.Profile.{denominator, is_valid};
 ghost use Rattle.house_model.specs.Register.{IsRegister, name_pair};
 ghost use Rattle.house_model.specs.Said.{denominator_of};
+ghost use Rattle.house_model.specs.Shortage.{IsShortage, assignment_demand};
+ghost use Rattle.cut_gap.specs.Cut.{marked};
 ghost use Rattle.seat_quota.specs.Tally.{IsTally};
 ghost use Rattle.house_core.specs.Standing.{BeginsReviews, IsOfInvalid, IsOfNone, IsSilentRound, IsState};
 ghost use Rattle.house_core.specs.Standing.{Obeys, StopsAt, own_halt};
@@ -18,6 +20,7 @@ ghost use Rattle.house_core.specs.Stops.{stop_of_freeze};
 use crate::round::{Round, Shortage, Stop};
 use crate::state::State;
 use cluster_draw::{FreezeFault, freeze};
+use cut_gap::Cut;
 use first_assign::{First, GivenFault, first, given, shortage};
 use house_base::{Grid, Memory, Phase, Plan, Reason};
 use house_model::Goal;
@@ -26,7 +29,9 @@ use seat_quota::Tally;
 use std::alloc::Global;
 
 impl State {
-    /// Fixes the assignment: the one that was made by hand, or the first one.
+    /// Fixes the assignment: the one that was made by hand, or the first one. It comes once, and has large locals, so
+    /// that no other line is to pay for them.
+    #[inline(never)]
     pub fn assign(&mut self, alloc: Global) -> Result<(), Stop>
         requires state { IsState self.old }
         requires called { self.old.call ≢ None }
@@ -88,7 +93,7 @@ fn settled(alloc: Global, plan: Plan) -> Result<Round, Stop>
 {
     match shortage(alloc, &plan) {
         Ok(None) => Ok(Round { plan, tally: None }),
-        Ok(Some(cut)) => Err(Stop::Short(Shortage { plan, cut })),
+        Ok(Some(cut)) => Err(short(alloc, plan, cut)),
         Err(Memory) => Err(Stop::Memory),
     }
 }
@@ -101,7 +106,7 @@ fn computed(alloc: Global, plan: Plan) -> Result<Round, Stop>
 {
     match first(alloc, &plan) {
         Ok(First::Pairs(pairs)) => begun(alloc, plan, pairs),
-        Ok(First::Short(cut)) => Err(Stop::Short(Shortage { plan, cut })),
+        Ok(First::Short(cut)) => Err(short(alloc, plan, cut)),
         Err(Memory) => Err(Stop::Memory),
     }
 }
@@ -132,6 +137,20 @@ fn begun(alloc: Global, plan: Plan, pairs: Grid) -> Result<Round, Stop>
             tally: Some(tally),
         }),
         Err(Memory) => Err(Stop::Memory),
+    }
+}
+
+/// The stop for the want of a valid assignment, as a cut shows it; or for that of memory.
+fn short(alloc: Global, plan: Plan, cut: Cut) -> Stop
+    requires none { has_assignment plan ≡ false }
+    requires reviewers { length cut.reviewers ≡ size plan }
+    requires proposals { length cut.proposals ≡ size plan }
+    requires printed { IsShortage (assignment_demand plan) (marked cut.reviewers) (marked cut.proposals) }
+    ensures { IsOfNone plan result }
+{
+    match Box::new(alloc, plan) {
+        Ok(plan) => Stop::Short(Shortage { plan, cut }),
+        Err(_) => Stop::Memory,
     }
 }
 

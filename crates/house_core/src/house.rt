@@ -183,7 +183,7 @@ impl House {
             × (plan.now ≡ setting (in_force (halt g) lines))) }
     {
         if let Some(shortage) = shortage_in(&self.stop) {
-            return Some(&shortage.plan);
+            return Some(&*shortage.plan);
         }
         match &self.state.round {
             Some(round) => Some(&round.plan),

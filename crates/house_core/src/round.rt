@@ -18,10 +18,11 @@ pub struct Round {
     pub tally: Option<Tally>,
 }
 
-/// A setting for which no valid assignment exists, with the cut that shows it.
+/// A setting for which no valid assignment exists, with the cut that shows it. The plan is in a box, since each line's
+/// answer has room for a shortage, and a plan is large.
 #[derive(Drop)]
 pub struct Shortage {
-    pub plan: Plan,
+    pub plan: Box<Plan>,
     pub cut: Cut,
 }
 

@@ -1,6 +1,6 @@
 use Rattle.std.proofs.Common.{sym, ap, ◌∙◌, Err, inr}
 use Rattle.house_core.specs.House.{Standing}
-use Rattle.house_core.proofs.HouseLemmas.{own_goal, going_says, halts_by, shown_by, stands_more, step_going, stands_stopped, step_stopped, stands_stop, step_stop, not_memory, memory_step}
+use Rattle.house_core.proofs.HouseLemmas.{own_goal, going_says, halts_by, stands_more, step_going, stands_stopped, step_stopped, stands_stop, step_stop, not_memory, memory_step}
 use Rattle.house_core.proofs.house.House.line.Goals as goal
 
 pub returns-in-Some-clause-step : goal.returns-in-Some-clause-step

@@ -1,41 +1,37 @@
--- Where a row and a column stand among the cells of a square.
-use Rattle.std.proofs.Common.{◌≡◌, ◌≢◌, ℕ, ◌+◌, ◌*◌, ◌<◌, Bool, true, false, ◌&&◌, nat_eq, cond, List, length, get_or, set, replicate, refl, arith, ◌∙◌}
-use Rattle.std.proofs.lemmas.List.{get_or_default, get_or-set_other}
-use Rattle.std.proofs.lemmas.Nat.{mul-add-lt, same_from_place}
-use Rattle.std.proofs.lemmas.Grind.{common_steps, get_or-set_at}
-use Rattle.std.proofs.lemmas.Bool.Decides.{nat_tests}
-use Rattle.house_base.specs.Grid.{Square, cell}
+-- Where a row and a column stand among the cells of a square that rows of words make.
+use Rattle.std.proofs.Common.{◌≡◌, ℕ, ◌+◌, ◌*◌, ◌/◌, ◌%◌, ◌<◌, Bool, false, List, [], ◌∷◌, length, map, replicate, refl, ap, ◌∙◌, arith}
+use Rattle.std.specs.List.{range_with_len}
+use Rattle.std.proofs.lemmas.List.FromFn.{get_or-map-range_with_len, length-range_with_len, length-map-range_with_len}
+use Rattle.std.proofs.lemmas.Nat.{mul-add-lt, div-mul-add, mod-mul-add}
+use Rattle.std.proofs.lemmas.Grind.{common_steps}
+use Rattle.house_base.specs.Grid.{cell, square_of_words}
+use Rattle.house_base.specs.Rows.{has}
+use Rattle.house_base.proofs.RowLemmas.{has-zeros}
 
--- a row and a column within the square have a place among its cells
-pub place_below : (cells : List Bool) (side row column : ℕ) → length cells ≡ side * side → row < side → column < side → row * side + column < length cells
-place_below cells side row column squared row_below column_below =
-    omega (arith, mul-add-lt row side column side row_below column_below)
-
--- what is read at the place of a row and a column is what stands there
-pub cell-read : (square : Square) (row column : ℕ) (read : Bool) → length square.cells ≡ square.side * square.side → row < square.side → column < square.side →
-    read ≡ get_or square.cells (row * square.side + column) read → read ≡ cell square row column
+-- what stands in a row and a column is the bit there
+pub cell-words : (side : ℕ) (words : List ℕ) (row column : ℕ) → row < side → column < side → cell (square_of_words side words) row column ≡ has words row column
 unfolding cell
-cell-read square row column read squared row_below column_below is_read =
-    is_read ∙ get_or_default square.cells (row * square.side + column) read false (place_below square.cells square.side row column squared row_below column_below)
+cell-words side words row column row_below column_below =
+    let at = row * side + column in
+    let below : at < side * side = omega (arith, mul-add-lt row side column side row_below column_below) in
+    get_or-map-range_with_len (λ i. has words (i / side) (i % side)) 0 (side * side) at at false below (omega arith)
+    ∙ (ap (λ r. has words r (at % side)) (div-mul-add row side column column_below)
+    ∙ ap (λ c. has words row c) (mod-mul-add row side column column_below))
+
+pub length-cells : (side : ℕ) (words : List ℕ) → length (square_of_words side words).cells ≡ side * side
+length-cells side words = length-map-range_with_len (λ i. has words (i / side) (i % side)) 0 (side * side)
+
+map_false : (f : ℕ → Bool) (numbers : List ℕ) → ((i : ℕ) → f i ≡ false) → map f numbers ≡ replicate (length numbers) false
+map_false f [] all = refl
+map_false f (i ∷ others) all = ap (λ b. b ∷ map f others) (all i) ∙ ap (λ bs. false ∷ bs) (map_false f others all)
 
 -- a fresh square is false everywhere
+pub square-zeros : (side n : ℕ) (words : List ℕ) → words ≡ replicate n 0 → square_of_words side words ≡ record { side = side; cells = replicate (side * side) false }
+square-zeros side n words zeros =
+    ap (λ cells. record { side = side; cells = cells })
+    (map_false (λ i. has words (i / side) (i % side)) (range_with_len 0 (side * side)) (λ i. has-zeros words n zeros (i / side) (i % side))
+    ∙ ap (λ k. replicate k false) (length-range_with_len 0 (side * side)))
+
 pub cell-replicate : (side n row column : ℕ) → cell (record { side = side; cells = replicate n false }) row column ≡ false
 unfolding cell
 cell-replicate side n row column = grind (arith, common_steps)
-
--- what a list of truth values reads after a write, by whether the places are one
-get_or-set_by : (cells : List Bool) (i j : ℕ) (value same : Bool) → i < length cells → (same ≡ true → j ≡ i) → (same ≡ false → j ≢ i) →
-    get_or (set cells i value) j false ≡ cond same value (get_or cells j false)
-get_or-set_by cells i j value true inside is_same is_other = get_or-set_at cells i j value false (is_same refl) inside
-get_or-set_by cells i j value false inside is_same is_other = get_or-set_other cells i j value false (is_other refl)
-
--- after a write to one row and column, what stands in another is what stood there
-pub cell-set : (square : Square) (row column r c : ℕ) (value : Bool) → length square.cells ≡ square.side * square.side →
-    row < square.side → column < square.side → r < square.side → c < square.side →
-    cell (record square { cells = set square.cells (row * square.side + column) value }) r c ≡ cond (nat_eq r row && nat_eq c column) value (cell square r c)
-unfolding cell
-cell-set square row column r c value squared row_below column_below r_below c_below =
-    get_or-set_by square.cells (row * square.side + column) (r * square.side + c) value (nat_eq r row && nat_eq c column)
-    (place_below square.cells square.side row column squared row_below column_below)
-    (λ same. let one : (r ≡ row) × (c ≡ column) = grind (arith, nat_tests) in cc)
-    (λ other same_place. let one = same_from_place r c row column square.side c_below column_below same_place in grind (arith, nat_tests))

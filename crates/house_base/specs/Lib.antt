@@ -3,6 +3,7 @@ pub mod Grid
 pub mod Name
 pub mod Number
 pub mod Padded
+pub mod Rows
 pub mod Seed
 pub mod Setting
 pub mod Tables

@@ -1,30 +1,38 @@
 //! Squares of truth values.
 
-ghost use Rattle.std.specs.Prelude.{◌≡◌, ℕ, ◌*◌, length, replicate, ◌<◌, ◌≤◌, false, IfOk, ◌==◌, ◌&&◌, if◌then◌else◌};
+ghost use Rattle.std.specs.Prelude.{◌≡◌, ℕ, ◌+◌, ◌*◌, ◌/◌, ◌%◌, ◌<◌, ◌≤◌, ◌==◌, ◌&&◌, if◌then◌else◌};
+ghost use Rattle.std.specs.Prelude.{true, false, length, replicate, IfOk, IfSome, IfNone};
+ghost use Rattle.std.specs.Int.{bit_at};
 ghost use Rattle.house_base.specs.Grid.{cell};
+ghost use Rattle.house_base.specs.declared.rows.TheConstants.{ROW_WORDS, WORD_BITS};
 
 use crate::limits::MOST_APPLICANTS;
 use crate::memory::Memory;
+use crate::rows::{ROW_WORDS, has_bit, next_bit, set_bit, set_word, word};
 use std::alloc::Global;
 use std::marker::Model;
 
-/// A square of truth values, as the pairs of an assignment or the pairs that may not be.
+/// A square of truth values, as the pairs of an assignment or the pairs that may not be. Each row is kept in words of
+/// 64 bits.
 #[derive(Drop)]
 pub struct Grid {
     side: u32,
-    cells: Vec<bool>,
+    words: Vec<u64>,
 }
 
 impl Model for Grid {
-    ghost use Rattle.std.specs.Prelude.{◌≡◌, ◌*◌, ◌≤◌, length};
+    ghost use Rattle.std.specs.Prelude.{◌≡◌, ℕ, ◌*◌, ◌<◌, ◌≤◌, false, vec_len};
     ghost use Rattle.house_base.specs.declared.limits.TheConstants.{MOST_APPLICANTS};
-    ghost use Rattle.house_base.specs.Grid.{Square};
+    ghost use Rattle.house_base.specs.declared.rows.TheConstants.{ROW_WORDS, ROW_BITS};
+    ghost use Rattle.house_base.specs.Grid.{Square, square_of_words};
+    ghost use Rattle.house_base.specs.Rows.{has};
 
     ghost Value = { Square };
 
-    ghost view = { λ g. record { side = g.side; cells = g.cells.items } };
+    ghost view = { λ g. square_of_words g.side g.words.items };
 
-    ghost invariant = { λ g. (g.side ≤ MOST_APPLICANTS) × (length g.cells.items ≡ g.side * g.side) };
+    ghost invariant = { λ g. (g.side ≤ MOST_APPLICANTS) × (vec_len g.words ≡ g.side * ROW_WORDS)
+        × ((r c : ℕ) → r < g.side → g.side ≤ c → c < ROW_BITS → has g.words.items r c ≡ false) };
 }
 
 impl Grid {
@@ -35,10 +43,19 @@ impl Grid {
         ensures empty { IfOk result (λ grid. (row column : ℕ) → cell grid row column ≡ false) }
         ensures whole { IfOk result (λ grid. grid ≡ record { side = side; cells = replicate (side * side) false }) }
     {
-        let side_len = side as usize;
         Ok(Grid {
             side,
-            cells: vec![in alloc; false; side_len * side_len]?,
+            words: vec![in alloc; 0; side as usize * ROW_WORDS]?,
+        })
+    }
+
+    /// The same square.
+    pub fn copy(&self, alloc: Global) -> Result<Grid, Memory>
+        ensures { IfOk result (λ grid. grid ≡ self.now) }
+    {
+        Ok(Grid {
+            side: self.side,
+            words: self.words.to_vec(alloc)?,
         })
     }
 
@@ -55,7 +72,7 @@ impl Grid {
         requires column_below { column < self.now.side }
         ensures { result ≡ cell self.now row column }
     {
-        self.cells[row as usize * self.side as usize + column as usize]
+        has_bit(&self.words, row, column)
     }
 
     /// Sets one place, and leaves every other.
@@ -67,7 +84,43 @@ impl Grid {
         ensures cells { (r c : ℕ) → r < self.old.side → c < self.old.side →
             cell self.new r c ≡ (if r == row && c == column then value else cell self.old r c) }
     {
-        let at = row as usize * self.side as usize + column as usize;
-        self.cells[at] = value;
+        set_bit(&mut self.words, row, column, value);
+    }
+
+    /// The first column from one on that is true in a row.
+    pub fn next_in_row(&self, row: u32, from: u32) -> Option<u32>
+        requires { row < self.now.side }
+        ensures from { IfSome result (λ c. from ≤ c) }
+        ensures below { IfSome result (λ c. c < self.now.side) }
+        ensures true_there { IfSome result (λ c. cell self.now row c ≡ true) }
+        ensures before { IfSome result (λ c. (q : ℕ) → from ≤ q → q < c → cell self.now row q ≡ false) }
+        ensures none { IfNone result ((q : ℕ) → from ≤ q → q < self.now.side → cell self.now row q ≡ false) }
+    {
+        next_bit(&self.words, row, from)
+    }
+
+    /// One word of a row: 64 columns, the first in the lowest bit. It has no bit behind the last column.
+    pub fn word(&self, row: u32, at: usize) -> u64
+        requires row_below { row < self.now.side }
+        requires at_below { at < ROW_WORDS }
+        ensures bits { (i : ℕ) → i < WORD_BITS → at * WORD_BITS + i < self.now.side
+            → (bit_at result i == 1) ≡ cell self.now row (at * WORD_BITS + i) }
+        ensures clear { (i : ℕ) → i < WORD_BITS → self.now.side ≤ at * WORD_BITS + i → bit_at result i ≡ 0 }
+    {
+        word(&self.words, row, at)
+    }
+
+    /// Sets 64 columns of a row, and leaves every other place.
+    pub fn set_word(&mut self, row: u32, at: usize, word: u64)
+        requires row_below { row < self.old.side }
+        requires at_below { at < ROW_WORDS }
+        requires clear { (i : ℕ) → i < WORD_BITS → self.old.side ≤ at * WORD_BITS + i → bit_at word i ≡ 0 }
+        ensures side { self.new.side ≡ self.old.side }
+        ensures as_many { length self.new.cells ≡ length self.old.cells }
+        ensures cells { (r c : ℕ) → r < self.old.side → c < self.old.side →
+            cell self.new r c ≡ (if r == row && c / WORD_BITS == at
+            then bit_at word (c % WORD_BITS) == 1 else cell self.old r c) }
+    {
+        set_word(&mut self.words, row, at, word);
     }
 }

@@ -14,6 +14,7 @@ pub mod number;
 pub mod phase;
 pub mod plan;
 pub mod review;
+pub mod rows;
 pub mod seed;
 pub mod tables;
 

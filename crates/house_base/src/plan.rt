@@ -114,6 +114,14 @@ impl Plan {
         self.owner_from(reviewer).is_some() && !same_cluster && !self.barred.get(reviewer, proposal)
     }
 
+    /// The pairs that may not be, although the two stand in different clusters.
+    pub fn barred(&self) -> &Grid
+        ensures value { result.now ≡ self.now.barred }
+        ensures side { result.now.side ≡ size self.now }
+    {
+        &self.barred
+    }
+
     /// How far the proposal stands behind the reviewer, round the places: 0 for the next one.
     pub fn distance(&self, reviewer: u32, proposal: u32) -> u32
         requires reviewer_below { reviewer < size self.now }

@@ -207,3 +207,27 @@ fn counts_and_errors(rt: HostRuntime) -> Result<(), Fail> {
     assert_eq!(rt; Memory.to_string(rt.alloc())?.as_str(), "no memory is left");
     Ok(())
 }
+
+#[test]
+fn squares_are_read_by_places_and_by_words(rt: HostRuntime) -> Result<(), Fail> {
+    let alloc = rt.alloc();
+    let mut grid = Grid::new(alloc, 200)?;
+    grid.set(7, 3, true);
+    grid.set(7, 64, true);
+    grid.set(7, 199, true);
+    let same = grid.copy(alloc)?;
+    grid.set(7, 64, false);
+    assert_eq!(rt; grid.next_in_row(7, 0), Some(3));
+    assert_eq!(rt; grid.next_in_row(7, 4), Some(199));
+    assert_eq!(rt; grid.next_in_row(8, 0), None);
+    assert_eq!(rt; same.next_in_row(7, 4), Some(64));
+    assert_eq!(rt; same.next_in_row(7, 200), None);
+    assert_eq!(rt; grid.word(7, 0), 8);
+    assert_eq!(rt; same.word(7, 1), 1);
+    grid.set_word(9, 2, 0b101);
+    assert_eq!(rt; grid.get(9, 128), true);
+    assert_eq!(rt; grid.get(9, 129), false);
+    assert_eq!(rt; grid.get(9, 130), true);
+    assert_eq!(rt; grid.get(9, 3), false);
+    Ok(())
+}

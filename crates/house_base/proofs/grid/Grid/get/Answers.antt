@@ -1,8 +1,13 @@
-use Rattle.std.proofs.Common.{ap, arith}
-use Rattle.house_base.proofs.Cells.{cell-read}
+use Rattle.std.proofs.Common.{ap, sym, ◌∙◌, arith}
+use Rattle.house_base.specs.Grid.{cell}
+use Rattle.house_base.specs.Rows.{has}
+use Rattle.house_base.proofs.Cells.{cell-words}
 use Rattle.house_base.proofs.grid.Grid.get.Goals as goal
 
 pub returns : goal.returns
 returns c =
-    let same_side = ap (λ s. s.side) c.self.view_is in
-    rw (← c.self.view_is) (cell-read _ _ _ _ c.self.invariant.1 (omega arith) (omega arith) c.index.ensures)
+    let side = ap (λ s. s.side) c.self.view_is in
+    c.has_bit.ensures
+    ∙ (ap (λ words. has words c.args.row c.args.column) c.deref.ensures.value
+    ∙ (sym (cell-words c.self.inside.side c.self.inside.words.items c.args.row c.args.column (omega (arith, side)) (omega (arith, side)))
+    ∙ ap (λ s. cell s c.args.row c.args.column) c.self.view_is))

@@ -1,9 +1,18 @@
-use Rattle.std.proofs.Common.{ap, arith}
-use Rattle.house_base.proofs.Cells.{cell-set}
+use Rattle.std.proofs.Common.{ap, sym, cond, eqb, length, ◌&&◌, ◌∙◌, arith}
+use Rattle.house_base.specs.Grid.{cell}
+use Rattle.house_base.proofs.Cells.{cell-words, length-cells}
 use Rattle.house_base.proofs.grid.Grid.set.Goals as goal
 
+pub returns-clause-as_many : goal.returns-clause-as_many
+returns-clause-as_many c =
+    length-cells c.self.inside.side c.set_bit.new.words.items
+    ∙ (sym (length-cells c.self.inside.side c.self.inside.words.items) ∙ ap (λ s. length s.cells) c.self.view_is)
+
 pub returns-clause-cells : goal.returns-clause-cells
-returns-clause-cells c =
-    let same_side = ap (λ s. s.side) c.self.view_is in
-    rw (← c.self.view_is) (λ row column row_below column_below.
-    cell-set _ _ _ _ _ _ c.self.invariant.1 (omega arith) (omega arith) row_below column_below)
+returns-clause-cells c = λ r q r_below q_below.
+    let side = ap (λ s. s.side) c.self.view_is in
+    cell-words c.self.inside.side c.set_bit.new.words.items r q (omega (arith, r_below, side)) (omega (arith, q_below, side))
+    ∙ (c.set_bit.ensures.bits r q (omega (arith, q_below, side, c.self.invariant.0))
+    ∙ ap (λ b. cond (eqb r c.args.row && eqb q c.args.column) c.args.value b)
+    (sym (cell-words c.self.inside.side c.self.inside.words.items r q (omega (arith, r_below, side)) (omega (arith, q_below, side)))
+    ∙ ap (λ s. cell s r q) c.self.view_is))

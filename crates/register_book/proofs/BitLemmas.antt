@@ -3,6 +3,7 @@ use Rattle.std.specs.Int.{bit_at}
 use Rattle.std.proofs.lemmas.Bool.{cases_lt, cases_eq, false≢true, lt-ltb, le-ltb, eq-eqb, ne_eqb, and_from, and_left, and_right, or_right}
 use Rattle.std.proofs.lemmas.List.{take_all, get_or_append_left, get_or-append_right, get_or-replicate, get_or_past, length-replicate, get_or-set_same, get_or-set_other}
 use Rattle.std.proofs.lemmas.Nat.Bits.{shr_and_one, bit_at-zero, bit_at-lt, same_from_bits_below, bit_at_set_same, bit_at_set_other}
+use Rattle.house_base.specs.Rows.{has}
 use Rattle.register_book.specs.Rows.{is_set, holds}
 use Rattle.register_book.specs.declared.rows.TheConstants.{WORD_BITS, ROW_WORDS, ROW_BITS}
 
@@ -153,3 +154,18 @@ word-zero words row at word from below read fits none =
     ∙ (holds-within words row column (omega (arith, from, below, within)) ∙ none column) in
     let not_one : bit_at word i ≢ 1 = λ e. false≢true (sym unset ∙ eq-eqb (bit_at word i) 1 e) in
     omega (arith, bit_at-lt word i, not_one, bit_at-zero i))
+
+-- The same bits, as rows of words have them.
+
+pub holds-has : (words : List ℕ) (row column : ℕ) → column < ROW_BITS → has words row column ≡ holds words row column
+unfolding has is_set
+holds-has words row column below =
+    let k = row * ROW_BITS + column in
+    let here : row * ROW_WORDS + column / WORD_BITS ≡ k / WORD_BITS = omega (arith, below) in
+    let bit : column % WORD_BITS ≡ k % WORD_BITS = omega (arith, below) in
+    ap (λ i. eqb (bit_at (get_or words i 0) (column % WORD_BITS)) 1) here
+    ∙ (ap (λ b. eqb (bit_at (get_or words (k / WORD_BITS) 0) b) 1) bit ∙ holds-within words row column below)
+
+pub holds-behind : (words : List ℕ) (row column : ℕ) → ROW_BITS ≤ column → holds words row column ≡ false
+unfolding holds
+holds-behind words row column behind = and_left (ltb column ROW_BITS) (is_set words (row * ROW_BITS + column)) (le-ltb column ROW_BITS behind)

@@ -11,10 +11,11 @@ use Rattle.house_model.proofs.RegisterLemmas.{empty_register, with_place, with_p
 use Rattle.register_book.specs.Held.{IsBook, register_of, cluster_in, named, pairs_where, text_at}
 use Rattle.register_book.specs.PairList.{PairsHeld}
 use Rattle.register_book.specs.Places.{PlacesHeld}
-use Rattle.register_book.specs.Roll.{names_in, persons_in, number_in}
+use Rattle.name_index.specs.Index.{number_in}
+use Rattle.register_book.specs.Roll.{names_in, persons_in}
 use Rattle.register_book.specs.Rows.{holds}
 use Rattle.register_book.proofs.BitLemmas.{holds-none}
-use Rattle.register_book.proofs.IndexLemmas.{at-number_in, known-number_in, number_in-at}
+use Rattle.name_index.proofs.IndexLemmas.{at-number_in, known-number_in, number_in-at}
 use Rattle.register_book.proofs.NamedLemmas.{named-push, pairs_where-none}
 use Rattle.register_book.proofs.RollLemmas.{persons_in-differ}
 use Rattle.register_book.proofs.SeenLemmas.{persons_seen, placed_seen}

@@ -1,6 +1,6 @@
 pub mod ApplicantLemmas
 pub mod BitLemmas
-pub mod IndexLemmas
+pub mod ConflictLemmas
 pub mod KeptLemmas
 pub mod NamedLemmas
 pub mod PairLemmas

@@ -12,8 +12,8 @@ use Rattle.house_model.proofs.InOrderLemmas.{In, In-get_or, In-map, map-In, In-f
 use Rattle.house_model.proofs.GroupLemmas.{same_text, bytes_eq-same, In-among, filter-none}
 use Rattle.register_book.specs.Held.{named, pairs_where, text_at}
 use Rattle.register_book.specs.PairList.{numbers_among}
-use Rattle.register_book.specs.Roll.{number_in}
-use Rattle.register_book.proofs.IndexLemmas.{number_of_member, at-number_in, number_in-at, number_in-append, number_in-new}
+use Rattle.name_index.specs.Index.{number_in}
+use Rattle.name_index.proofs.IndexLemmas.{number_of_member, at-number_in, number_in-at, number_in-append, number_in-new}
 use Rattle.register_book.proofs.RollLemmas.{map-same_on}
 
 -- Pairs of names, and the pairs of numbers that they stand for.

@@ -7,7 +7,8 @@ use Rattle.house_model.proofs.GroupLemmas.{same_text, among-In}
 use Rattle.register_book.specs.Held.{IsBook, register_of, named, pairs_where, text_at}
 use Rattle.register_book.specs.PairList.{PairsHeld, numbers_among}
 use Rattle.register_book.specs.Places.{PlacesHeld}
-use Rattle.register_book.specs.Roll.{names_in, persons_in, number_in}
+use Rattle.name_index.specs.Index.{number_in}
+use Rattle.register_book.specs.Roll.{names_in, persons_in}
 use Rattle.register_book.specs.Rows.{holds}
 use Rattle.register_book.specs.declared.rows.TheConstants.{ROW_BITS}
 use Rattle.register_book.proofs.NamedLemmas.{same_bool, pair_among-where, pair_among-where_more, pair_among-named, named-known}

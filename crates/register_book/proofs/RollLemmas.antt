@@ -7,8 +7,9 @@ use Rattle.house_model.specs.Text.{Text}
 use Rattle.house_model.specs.Register.{among, firsts}
 use Rattle.house_model.proofs.InOrderLemmas.{In, In-get_or, In-map, AllPairs-from_InOrder}
 use Rattle.house_model.proofs.GroupLemmas.{bytes_eq-same, bytes_eq-other, among-In, In-among, not_In, In-firsts, firsts-In, Apart-firsts, firsts-push_new, firsts-push_known, length-firsts}
-use Rattle.register_book.specs.Roll.{IsRoll, persons_in, own_in, number_in}
-use Rattle.register_book.proofs.IndexLemmas.{number_of_member, at-number_in, number_in-unknown, number_in-at, number_in-append, number_in-push, number_from_position}
+use Rattle.name_index.specs.Index.{number_in}
+use Rattle.register_book.specs.Roll.{IsRoll, persons_in, own_in}
+use Rattle.name_index.proofs.IndexLemmas.{number_of_member, at-number_in, number_in-unknown, number_in-at, number_in-append, number_in-push, number_from_position}
 
 -- The persons of applicants.
 

@@ -14,9 +14,10 @@ use Rattle.house_model.proofs.RegisterLemmas.{fewer_placed}
 use Rattle.register_book.specs.Held.{IsBook, register_of, cluster_in, named, pairs_where, text_at}
 use Rattle.register_book.specs.PairList.{PairsHeld}
 use Rattle.register_book.specs.Places.{PlacesHeld}
-use Rattle.register_book.specs.Roll.{names_in, persons_in, own_in, number_in}
+use Rattle.name_index.specs.Index.{number_in}
+use Rattle.register_book.specs.Roll.{names_in, persons_in, own_in}
 use Rattle.register_book.specs.Rows.{holds}
-use Rattle.register_book.proofs.IndexLemmas.{number_from_position, number_of_member, at-number_in, known-number_in, position_known}
+use Rattle.name_index.proofs.IndexLemmas.{number_from_position, number_of_member, at-number_in, known-number_in, position_known}
 use Rattle.register_book.proofs.NamedLemmas.{AreNumbers}
 use Rattle.register_book.proofs.RollLemmas.{person_In}
 

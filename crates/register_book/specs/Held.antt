@@ -5,7 +5,8 @@ use Rattle.house_model.specs.Register.{Register, IsRegister}
 use Rattle.house_model.specs.Text.{Text}
 use Rattle.register_book.specs.PairList.{PairsHeld}
 use Rattle.register_book.specs.Places.{PlacesHeld}
-use Rattle.register_book.specs.Roll.{names_in, persons_in, number_in}
+use Rattle.name_index.specs.Index.{number_in}
+use Rattle.register_book.specs.Roll.{names_in, persons_in}
 use Rattle.register_book.specs.Rows.{holds}
 use Rattle.register_book.specs.declared.rows.TheConstants.{ROW_WORDS}
 

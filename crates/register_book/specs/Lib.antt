@@ -1,5 +1,4 @@
 pub mod Held
-pub mod Index
 pub mod PairList
 pub mod Places
 pub mod Roll

@@ -1,9 +1,9 @@
 use Rattle.std.specs.Prelude.{◌≡◌, ◌≤◌, ℕ, List, length, map, count_by}
-use Rattle.std.specs.List.{position_or_len}
 use Rattle.std.specs.Str.{bytes_eq}
 use Rattle.house_base.specs.declared.limits.TheConstants.{MOST_APPLICANTS}
 use Rattle.house_model.specs.Register.{firsts}
 use Rattle.house_model.specs.Text.{Text}
+use Rattle.name_index.specs.Index.{number_in}
 
 -- the names of these applicants, in register order
 abbrev pub names_in : List (Text × Text) → List Text
@@ -16,10 +16,6 @@ persons_in applicants = firsts (map (λ a. a.1) applicants)
 -- how many of them a person has
 unfoldable pub own_in : List (Text × Text) → Text → ℕ
 own_in applicants person = count_by (λ a. bytes_eq a.1 person) applicants
-
--- the index of a text among others; how many they are where it is not among them
-unfoldable pub number_in : List Text → Text → ℕ
-number_in texts t = position_or_len (bytes_eq t) texts
 
 -- applicants with indices of their names and of their persons, the number of each one's person, and how many
 -- applicants each person has

@@ -1,6 +1,6 @@
 //! The register of a call, with look-ups by name and by number.
 
-ghost use Rattle.std.specs.Prelude.{◌≡◌, ◌≢◌, ◌+◌, ◌<◌, ◌≤◌, ◌↔◌, Some, None, false, [], ◌∷◌, ◌++◌, not, ◌&&◌, ◌||◌, nat_le, is_some, IsTrue, IfSome, OnOk, OnErr, length, position, slice_get};
+ghost use Rattle.std.specs.Prelude.{◌≡◌, ◌≢◌, ℕ, ◌+◌, ◌<◌, ◌≤◌, ◌↔◌, Some, None, true, false, [], ◌∷◌, ◌++◌, not, ◌&&◌, ◌||◌, nat_le, is_some, IsTrue, IfSome, IfNone, OnOk, OnErr, length, position, slice_get};
 ghost use Rattle.std.specs.Str.{bytes_eq};
 ghost use Rattle.house_model.specs.Register.{IsRegister, names, persons, placed_names, own_count, cluster_of, person_of, person_number, among, pair_among};
 ghost use Rattle.house_model.specs.Text.{Text};
@@ -256,13 +256,19 @@ impl Book {
         self.conflicts.has(person, proposal)
     }
 
-    /// Whether the person with a number is barred from reviewing some applicant.
-    pub fn has_conflict(&self, person: u32) -> bool
+    /// The number, from one on, of the first applicant that the person with a number is barred from reviewing.
+    pub fn next_conflict(&self, person: u32, from: u32) -> Option<u32>
         requires { person < length (persons self.now) }
-        ensures { (result ≡ false)
-            ↔ ((name : Text) → pair_among self.now.barred (text_at (persons self.now) person) name ≡ false) }
+        ensures from { IfSome result (λ number. from ≤ number) }
+        ensures below { IfSome result (λ number. number < length self.now.applicants) }
+        ensures barred { IfSome result (λ number. pair_among self.now.barred (text_at (persons self.now) person)
+            (text_at (names self.now) number) ≡ true) }
+        ensures before { IfSome result (λ number. (other : ℕ) → from ≤ other → other < number
+            → pair_among self.now.barred (text_at (persons self.now) person) (text_at (names self.now) other) ≡ false) }
+        ensures none { IfNone result ((other : ℕ) → from ≤ other → other < length self.now.applicants
+            → pair_among self.now.barred (text_at (persons self.now) person) (text_at (names self.now) other) ≡ false) }
     {
-        self.conflicts.has_any(person)
+        self.conflicts.next(person, from)
     }
 
     /// How many persons were put into a cluster.

@@ -5,8 +5,6 @@
 
 pub mod book;
 pub mod fault;
-mod hints;
-mod index;
 mod pair_list;
 mod places;
 mod roll;

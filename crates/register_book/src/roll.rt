@@ -3,11 +3,12 @@
 ghost use Rattle.std.specs.Prelude.{◌≡◌, ◌+◌, ◌<◌, ◌≤◌, Some, None, false, [], ◌∷◌, ◌++◌, is_some, OnOk, OnErr, length, map, position, slice_get, slice_index_or};
 ghost use Rattle.std.specs.Str.{bytes_eq};
 ghost use Rattle.house_model.specs.Register.{among};
-ghost use Rattle.register_book.specs.Roll.{names_in, persons_in, own_in, number_in};
+ghost use Rattle.name_index.specs.Index.{number_in};
+ghost use Rattle.register_book.specs.Roll.{names_in, persons_in, own_in};
 
-use crate::index::NameIndex;
 use house_base::Name;
 use house_base::limits::{MOST_APPLICANTS, MOST_OWN};
+use name_index::NameIndex;
 use std::alloc::{AllocError, Global};
 use std::marker::Model;
 
@@ -69,7 +70,7 @@ impl Roll {
         ensures number { result ≡ position (bytes_eq name) (names_in self.now) }
         ensures known { is_some result ≡ among (names_in self.now) name }
     {
-        self.names.find(name)
+        self.names.find(&name)
     }
 
     /// How many persons there are.
@@ -93,7 +94,7 @@ impl Roll {
         ensures number { result ≡ position (bytes_eq name) (persons_in self.now) }
         ensures known { is_some result ≡ among (persons_in self.now) name }
     {
-        self.persons.find(name)
+        self.persons.find(&name)
     }
 
     /// The number of the person of the applicant with a number.
@@ -116,7 +117,7 @@ impl Roll {
     pub fn own_count(&self, person: Name) -> u32
         ensures { result ≡ own_in self.now person }
     {
-        match self.persons.find(person) {
+        match self.persons.find(&person) {
             Some(number) => self.own[number as usize],
             None => 0,
         }
@@ -130,7 +131,7 @@ impl Roll {
         ensures added { OnOk result (self.new ≡ self.old ++ (name, person) ∷ []) }
         ensures refused { OnErr result (self.new ≡ self.old) }
     {
-        match self.persons.find(person) {
+        match self.persons.find(&person) {
             Some(number) => self.add_to_known(name, person, number),
             None => self.add_to_new(name, person),
         }

@@ -1,8 +1,9 @@
 //! Rows of bits, which tell whether a pair of a person and an applicant is held.
 
-ghost use Rattle.std.specs.Prelude.{◌≡◌, ℕ, ◌+◌, ◌*◌, ◌<◌, ◌≤◌, ◌↔◌, false, [], ◌==◌, ◌&&◌, ◌||◌, OnOk, OnErr, length};
+ghost use Rattle.std.specs.Prelude.{◌≡◌, ℕ, ◌+◌, ◌*◌, ◌<◌, ◌≤◌, ◌↔◌, true, false, [], ◌==◌, ◌&&◌, ◌||◌, OnOk, OnErr, IfSome, IfNone, length};
 ghost use Rattle.register_book.specs.Rows.{holds};
 
+use house_base::rows::next_bit;
 use std::alloc::{AllocError, Global};
 use std::marker::Model;
 
@@ -51,18 +52,16 @@ impl Rows {
         }
     }
 
-    /// Whether some bit of a row is set.
-    pub fn has_any(&self, row: u32) -> bool
+    /// The first column from one on whose bit is set in a row.
+    pub fn next(&self, row: u32, from: u32) -> Option<u32>
         requires { (row + 1) * ROW_WORDS ≤ length self.now }
-        ensures { (result ≡ false) ↔ ((column : ℕ) → holds self.now row column ≡ false) }
+        ensures from { IfSome result (λ c. from ≤ c) }
+        ensures below { IfSome result (λ c. c < ROW_BITS) }
+        ensures set { IfSome result (λ c. holds self.now row c ≡ true) }
+        ensures before { IfSome result (λ c. (q : ℕ) → from ≤ q → q < c → holds self.now row q ≡ false) }
+        ensures none { IfNone result ((q : ℕ) → from ≤ q → holds self.now row q ≡ false) }
     {
-        let first = row as usize * ROW_WORDS;
-        for at in first..first + ROW_WORDS {
-            if self.words[at] != 0 {
-                return true;
-            }
-        }
-        false
+        next_bit(&self.words, row, from)
     }
 
     /// Sets one bit, and leaves every other.

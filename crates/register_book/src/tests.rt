@@ -20,3 +20,17 @@ fn an_applicant_and_its_pair_are_put_on_record(rt: HostRuntime) -> Result<(), Fa
     assert_eq!(rt; book.find_person(ben), None);
     Ok(())
 }
+
+#[test]
+fn conflicts_are_found_by_number(rt: HostRuntime) -> Result<(), Fail> {
+    let ann = name(b"ann")?;
+    let ben = name(b"ben")?;
+    let mut book = Book::new(rt.alloc());
+    book.applicant(ann, ann)?;
+    book.applicant(ben, ann)?;
+    book.conflict(ann, ben)?;
+    let person = book.find_person(ann).ok_or("no person")?;
+    assert_eq!(rt; book.next_conflict(person, 0), Some(1));
+    assert_eq!(rt; book.next_conflict(person, 2), None);
+    Ok(())
+}

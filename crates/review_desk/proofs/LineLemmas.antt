@@ -1,5 +1,5 @@
-use Rattle.std.proofs.Common.{◌≡◌, ℕ, ◌+◌, ◌<◌, ◌≤◌, Bool, true, false, ◌&&◌, cond, nat_eq, leb, bytes_eq, Option, Some, None, refl, sym, ap, ◌∙◌, arith}
-use Rattle.std.specs.List.{All, Contains, find, position, position_from}
+use Rattle.std.proofs.Common.{◌≡◌, ℕ, ◌<◌, ◌≤◌, Bool, true, false, ◌&&◌, cond, nat_eq, leb, List, bytes_eq, Option, Some, None, refl, sym, ap, ◌∙◌, arith}
+use Rattle.std.specs.List.{find, position}
 use Rattle.std.specs.Option.{is_some, option_map, option_map_or, option_and_then}
 use Rattle.std.proofs.lemmas.Bool.{le-leb, lt-leb}
 use Rattle.std.proofs.lemmas.Iterator.Adapters.{position_from-zero}
@@ -10,14 +10,14 @@ use Rattle.house_base.specs.declared.plan.Owner.{Owner}
 use Rattle.house_base.specs.declared.plan.Person.{Person}
 use Rattle.house_base.specs.declared.review.ReviewLine.{ReviewLine}
 use Rattle.house_base.specs.Grid.{cell}
-use Rattle.house_base.specs.Setting.{Setting, size}
+use Rattle.house_base.specs.Setting.{Setting, IsSetting, size, names_of}
 use Rattle.house_base.proofs.Settings.{Contains-find}
 use Rattle.house_model.specs.Profile.{Pairs, Points}
 use Rattle.house_model.specs.Reviews.{reviewer_place, proposal_place}
 use Rattle.house_model.specs.Text.{Text}
-use Rattle.review_desk.specs.Desk.{Marks, IsSetUp, place_under, points_at}
+use Rattle.review_desk.specs.Desk.{Marks, IsSetUp, person_under}
 use Rattle.review_desk.specs.Line.{is_person, is_applicant, reviewer_of, proposal_of, points_in, kind_among, points_after}
-use Rattle.review_desk.proofs.PlaceLemmas.{among-find, among-position, first-below, position_from-below}
+use Rattle.review_desk.proofs.PlaceLemmas.{among-find, among-position, first-below, position_from-below, position-names}
 
 -- The kind of a whole line, test by test.
 
@@ -51,10 +51,10 @@ a_person None place h = cc
 a_person (Some o) place h = (o, refl, cc)
 
 -- a name under which no person stands is no person's
-pub person-unknown : (s : Setting) (desk : Marks) (name : Option Text) → IsSetUp s desk → option_and_then (place_under desk.reviewers) name ≡ None → is_person s name ≡ false
-person-unknown s desk None set_up h = refl
-person-unknown s desk (Some name) set_up h =
-    among-find s.owners name ∙ no_person (find (λ (o : Owner). bytes_eq o.name name) s.owners) (sym (set_up.reviewers name) ∙ h)
+pub person-unknown : (s : Setting) (name : Option Text) → option_and_then (person_under s) name ≡ None → is_person s name ≡ false
+person-unknown s None h = refl
+person-unknown s (Some name) h =
+    among-find s.owners name ∙ no_person (find (λ (o : Owner). bytes_eq o.name name) s.owners) h
 
 -- a person and its place
 pub record IsReviewer (s : Setting) (name : Option Text) (place : ℕ) : Type 0 where
@@ -62,13 +62,13 @@ pub record IsReviewer (s : Setting) (name : Option Text) (place : ℕ) : Type 0 
   pub stands : place ≡ option_map_or (reviewer_place s) name 0
   pub below : place < size s
 
-pub person-known : (s : Setting) (desk : Marks) (name : Option Text) (place : ℕ) → IsSetUp s desk → option_and_then (place_under desk.reviewers) name ≡ Some place → IsReviewer s name place
+pub person-known : (s : Setting) (name : Option Text) (place : ℕ) → IsSetting s → option_and_then (person_under s) name ≡ Some place → IsReviewer s name place
 unfolding reviewer_place
-person-known s desk None place set_up h = cc
-person-known s desk (Some name) place set_up h =
+person-known s None place setting h = cc
+person-known s (Some name) place setting h =
     let test = λ (o : Owner). bytes_eq o.name name in
-    let found = a_person (find test s.owners) place (sym (set_up.reviewers name) ∙ h) in
-    let below = first-below 0 s.owners (size s) found.0 set_up.setting.own set_up.setting.in_turn (Contains-find test s.owners found.0 found.1) in
+    let found = a_person (find test s.owners) place h in
+    let below = first-below 0 s.owners (size s) found.0 setting.own setting.in_turn (Contains-find test s.owners found.0 found.1) in
     record {
       known = among-find s.owners name ∙ ap is_some found.1;
       stands = sym (ap (λ o. option_map_or (λ (o : Owner). o.first) o 0) found.1 ∙ found.2);
@@ -81,18 +81,22 @@ pub record IsProposal (s : Setting) (name : Option Text) (place : ℕ) : Type 0 
   pub stands : place ≡ option_map_or (proposal_place s) name 0
   pub below : place < size s
 
-pub applicant-unknown : (s : Setting) (desk : Marks) (name : Option Text) → IsSetUp s desk → option_and_then (place_under desk.proposals) name ≡ None → is_applicant s name ≡ false
-applicant-unknown s desk None set_up h = refl
-applicant-unknown s desk (Some name) set_up h =
-    let test = λ (p : Person). bytes_eq p.name name in
-    among-position s.people 0 name ∙ ap is_some (sym (position_from-zero test s.people) ∙ (sym (set_up.proposals name) ∙ h))
+-- the place of an applicant's name among those of a desk
+applicant-place : (s : Setting) (names : List Text) (name : Text) → names ≡ names_of s → position (λ (p : Person). bytes_eq p.name name) s.people ≡ position (bytes_eq name) names
+applicant-place s names name are = sym (ap (position (bytes_eq name)) are ∙ position-names (λ (p : Person). p.name) name s.people)
 
-pub applicant-known : (s : Setting) (desk : Marks) (name : Option Text) (place : ℕ) → IsSetUp s desk → option_and_then (place_under desk.proposals) name ≡ Some place → IsProposal s name place
-unfolding proposal_place
-applicant-known s desk None place set_up h = cc
-applicant-known s desk (Some name) place set_up h =
+pub applicant-unknown : (s : Setting) (names : List Text) (name : Option Text) → names ≡ names_of s → option_and_then (λ name. position (bytes_eq name) names) name ≡ None → is_applicant s name ≡ false
+applicant-unknown s names None are h = refl
+applicant-unknown s names (Some name) are h =
     let test = λ (p : Person). bytes_eq p.name name in
-    let found : position test s.people ≡ Some place = sym (set_up.proposals name) ∙ h in
+    among-position s.people 0 name ∙ ap is_some (sym (position_from-zero test s.people) ∙ (applicant-place s names name are ∙ h))
+
+pub applicant-known : (s : Setting) (names : List Text) (name : Option Text) (place : ℕ) → names ≡ names_of s → option_and_then (λ name. position (bytes_eq name) names) name ≡ Some place → IsProposal s name place
+unfolding proposal_place
+applicant-known s names None place are h = cc
+applicant-known s names (Some name) place are h =
+    let test = λ (p : Person). bytes_eq p.name name in
+    let found : position test s.people ≡ Some place = applicant-place s names name are ∙ h in
     let below = position_from-below test 0 s.people place (sym (position_from-zero test s.people) ∙ found) in
     record {
       known = among-position s.people 0 name ∙ ap is_some (sym (position_from-zero test s.people) ∙ found);
@@ -132,17 +136,19 @@ points-aside s pairs points line r p k h = rw h refl
 
 -- What a desk reads, as a look-up has it.
 
-pub read-person : (s : Setting) (d now : Marks) (line : ReviewLine) (place : ℕ) → d ≡ now → IsSetUp s now → Some place ≡ option_and_then (place_under d.reviewers) line.reviewer → IsReviewer s line.reviewer place
-read-person s d now line place same set_up h = person-known s now line.reviewer place set_up (sym (h ∙ ap (λ (m : Marks). option_and_then (place_under m.reviewers) line.reviewer) same))
+pub read-person : (s : Setting) (now : Marks) (line : ReviewLine) (place : ℕ) → IsSetUp s now → Some place ≡ option_and_then (person_under s) line.reviewer → IsReviewer s line.reviewer place
+read-person s now line place set_up h = person-known s line.reviewer place set_up.setting (sym h)
 
-pub read-no_person : (s : Setting) (d now : Marks) (line : ReviewLine) → d ≡ now → IsSetUp s now → None ≡ option_and_then (place_under d.reviewers) line.reviewer → is_person s line.reviewer ≡ false
-read-no_person s d now line same set_up h = person-unknown s now line.reviewer set_up (sym (h ∙ ap (λ (m : Marks). option_and_then (place_under m.reviewers) line.reviewer) same))
+pub read-no_person : (s : Setting) (line : ReviewLine) → None ≡ option_and_then (person_under s) line.reviewer → is_person s line.reviewer ≡ false
+read-no_person s line h = person-unknown s line.reviewer (sym h)
 
-pub read-applicant : (s : Setting) (d now : Marks) (line : ReviewLine) (place : ℕ) → d ≡ now → IsSetUp s now → Some place ≡ option_and_then (place_under d.proposals) line.proposal → IsProposal s line.proposal place
-read-applicant s d now line place same set_up h = applicant-known s now line.proposal place set_up (sym (h ∙ ap (λ (m : Marks). option_and_then (place_under m.proposals) line.proposal) same))
+pub read-applicant : (s : Setting) (d now : Marks) (line : ReviewLine) (place : ℕ) → d ≡ now → IsSetUp s now →
+    Some place ≡ option_and_then (λ name. position (bytes_eq name) d.proposals) line.proposal → IsProposal s line.proposal place
+read-applicant s d now line place same set_up h = applicant-known s d.proposals line.proposal place (ap (λ (m : Marks). m.proposals) same ∙ set_up.proposals) (sym h)
 
-pub read-no_applicant : (s : Setting) (d now : Marks) (line : ReviewLine) → d ≡ now → IsSetUp s now → None ≡ option_and_then (place_under d.proposals) line.proposal → is_applicant s line.proposal ≡ false
-read-no_applicant s d now line same set_up h = applicant-unknown s now line.proposal set_up (sym (h ∙ ap (λ (m : Marks). option_and_then (place_under m.proposals) line.proposal) same))
+pub read-no_applicant : (s : Setting) (d now : Marks) (line : ReviewLine) → d ≡ now → IsSetUp s now →
+    None ≡ option_and_then (λ name. position (bytes_eq name) d.proposals) line.proposal → is_applicant s line.proposal ≡ false
+read-no_applicant s d now line same set_up h = applicant-unknown s d.proposals line.proposal (ap (λ (m : Marks). m.proposals) same ∙ set_up.proposals) (sym h)
 
 pub reviewer_of-read : (s : Setting) (line : ReviewLine) (place : ℕ) → IsReviewer s line.reviewer place → place ≡ reviewer_of s line
 unfolding reviewer_of

@@ -1,63 +1,68 @@
-use Rattle.std.proofs.Common.{◌≡◌, ℕ, zero, suc, ◌+◌, ◌<◌, ◌≤◌, Bool, true, false, ◌||◌, cond, List, [], ◌∷◌, length, map, drop, bytes_eq, Option, Some, None, IsTrue, refl, sym, ap, ◌∙◌, inl, inr, arith, add-one}
-use Rattle.std.specs.BTreeMap.{is_at}
-use Rattle.std.specs.Cmp.Lexicographic.{slice_cmp}
-use Rattle.std.specs.List.{All, Contains, find, position, position_from, slice_get}
-use Rattle.std.specs.Option.{is_some, option_map, option_map_or, option_and_then}
-use Rattle.std.specs.Ordering.{nat_cmp}
+use Rattle.std.proofs.Common.{◌≡◌, ◌≢◌, ℕ, zero, suc, ◌+◌, ◌<◌, ◌≤◌, Bool, true, false, not, ◌||◌, cond, ltb, AllPairs, List, [], ◌∷◌, ◌++◌, length, map, take, bytes_eq, Option, Some, None, refl, sym, ap, ◌∙◌, inl, inr, arith}
+use Rattle.std.specs.List.{All, Contains, find, position, position_from, position_or_len, slice_get}
+use Rattle.std.specs.Option.{is_some, option_map}
 use Rattle.std.proofs.lemmas.Bool.{cases_Bool, cond-true, cond-false}
-use Rattle.std.proofs.lemmas.Iterator.Adapters.{position_from-zero}
+use Rattle.std.proofs.lemmas.List.{length-map, take_more}
 use Rattle.std.proofs.lemmas.List.Elements.{All-head, All-tail}
-use Rattle.std.proofs.lemmas.Map.Text.{is_eq-slice_cmp}
-use Rattle.std.proofs.lemmas.Option.{slice_get_within, get_or_from_slice_get, same_Some}
-use Rattle.std.proofs.Math.Seq.{drop-cons}
+use Rattle.std.proofs.lemmas.List.Folds.{find_at}
+use Rattle.std.proofs.lemmas.Option.{slice_get_within, slice_get_past, slice_get-map, get_or_from_slice_get, same_Some}
 use Rattle.house_base.specs.declared.limits.TheConstants.{MOST_OWN}
 use Rattle.house_base.specs.declared.plan.Owner.{Owner}
 use Rattle.house_base.specs.declared.plan.Person.{Person}
 use Rattle.house_base.specs.Setting.{StandInTurn}
-use Rattle.house_base.proofs.Settings.{StandInTurn-le, Contains-find}
+use Rattle.house_base.proofs.Settings.{StandInTurn-le}
 use Rattle.house_model.specs.Register.{among}
 use Rattle.house_model.specs.Text.{Text}
 use Rattle.house_model.proofs.GroupLemmas.{among-cons, bytes_eq-swap}
-use Rattle.review_desk.specs.Desk.{place_under}
+use Rattle.name_index.specs.Index.{number_in}
+use Rattle.name_index.proofs.IndexLemmas.{among-before, number_from_position, no_number}
 
--- Places under names.
+-- Names by their numbers.
 
-drop_at : {A : Type 0} (xs : List A) (i : ℕ) (x : A) → slice_get xs i ≡ Some x → drop i xs ≡ x ∷ drop (i + 1) xs
-drop_at xs i x h =
-    drop-cons xs i x (slice_get_within xs i x h)
-    ∙ (ap (λ y. y ∷ drop (suc i) xs) (get_or_from_slice_get xs i x x h) ∙ ap (λ k. x ∷ drop k xs) (sym (add-one i)))
+-- where the first element stands whose name is a text
+number_of_name : {X : Type 0} (view : X → Text) (t : Text) (xs : List X) → position_or_len (λ x. bytes_eq (view x) t) xs ≡ number_in (map view xs) t
+unfolding number_in
+number_of_name view t [] = refl
+number_of_name view t (x ∷ xs) =
+    ap (λ b. cond (not b) (1 + position_or_len (λ y. bytes_eq (view y) t) xs) 0) (bytes_eq-swap (view x) t)
+    ∙ ap (λ n. cond (not (bytes_eq t (view x))) (1 + n) 0) (number_of_name view t xs)
 
-cond-map : {A B : Type 0} (b : Bool) (f : A → B) (x : A) (o : Option A) → cond b (Some (f x)) (option_map f o) ≡ option_map f (cond b (Some x) o)
-cond-map true f x o = refl
-cond-map false f x o = refl
+pub position-names : {X : Type 0} (view : X → Text) (t : Text) (xs : List X) → position (bytes_eq t) (map view xs) ≡ position (λ x. bytes_eq (view x) t) xs
+unfolding number_in
+position-names view t xs =
+    ap (λ k. cond (ltb (number_in (map view xs) t) k) (Some (number_in (map view xs) t)) None) (length-map xs view)
+    ∙ ap (λ n. cond (ltb n (length xs)) (Some n) None) (sym (number_of_name view t xs))
 
--- one more person
-pub person_more : (owners : List Owner) (i : ℕ) (o : Owner) (old new : List (Text × ℕ)) (name : Text) → slice_get owners i ≡ Some o →
-    place_under new name ≡ cond (is_at (slice_cmp nat_cmp o.name) name) (Some o.first) (place_under old name) →
-    place_under old name ≡ option_map (λ o. o.first) (find (λ o. bytes_eq o.name name) (drop (i + 1) owners)) →
-    place_under new name ≡ option_map (λ o. o.first) (find (λ o. bytes_eq o.name name) (drop i owners))
-person_more owners i o old new name at is was =
-    let rest = find (λ (o : Owner). bytes_eq o.name name) (drop (i + 1) owners) in
-    is
-    ∙ (ap (λ x. cond (is_at (slice_cmp nat_cmp o.name) name) (Some o.first) x) was
-    ∙ (ap (λ b. cond b (Some o.first) (option_map (λ (o : Owner). o.first) rest)) (is_eq-slice_cmp o.name name)
-    ∙ (cond-map (bytes_eq o.name name) (λ (o : Owner). o.first) o rest
-    ∙ ap (λ xs. option_map (λ (o : Owner). o.first) (find (λ (o : Owner). bytes_eq o.name name) xs)) (sym (drop_at owners i o at)))))
+-- what a search finds, by the number of a name
+pub find-numbered : {X : Type 0} (view : X → Text) (t : Text) (xs : List X) (i : ℕ) (x : X) → position (bytes_eq t) (map view xs) ≡ Some i →
+    slice_get xs i ≡ Some x → find (λ y. bytes_eq (view y) t) xs ≡ Some x
+find-numbered view t xs i x number at =
+    find_at (λ y. bytes_eq (view y) t) xs ∙ (ap (slice_get xs) (number_of_name view t xs ∙ (number_from_position (map view xs) t i number).0) ∙ at)
 
--- one more applicant
-pub applicant_more : (people : List Person) (i : ℕ) (p : Person) (old new : List (Text × ℕ)) (name : Text) → slice_get people i ≡ Some p →
-    place_under new name ≡ cond (is_at (slice_cmp nat_cmp p.name) name) (Some i) (place_under old name) →
-    place_under old name ≡ position_from (λ p. bytes_eq p.name name) (i + 1) (drop (i + 1) people) →
-    place_under new name ≡ position_from (λ p. bytes_eq p.name name) i (drop i people)
-applicant_more people i p old new name at is was =
-    let rest = position_from (λ (p : Person). bytes_eq p.name name) (i + 1) (drop (i + 1) people) in
-    is
-    ∙ (ap (λ x. cond (is_at (slice_cmp nat_cmp p.name) name) (Some i) x) was
-    ∙ (ap (λ b. cond b (Some i) rest) (is_eq-slice_cmp p.name name)
-    ∙ ap (position_from (λ (p : Person). bytes_eq p.name name) i) (sym (drop_at people i p at))))
+pub find-unnumbered : {X : Type 0} (view : X → Text) (t : Text) (xs : List X) → position (bytes_eq t) (map view xs) ≡ None → find (λ y. bytes_eq (view y) t) xs ≡ None
+find-unnumbered view t xs none =
+    find_at (λ y. bytes_eq (view y) t) xs ∙ (ap (slice_get xs) (number_of_name view t xs)
+    ∙ slice_get_past xs (number_in (map view xs) t) (omega (arith, length-map xs view, no_number (map view xs) t none)))
 
-pub applicants_all : (people : List Person) (name : Text) (o : Option ℕ) → o ≡ position_from (λ p. bytes_eq p.name name) 0 (drop 0 people) → o ≡ position (λ p. bytes_eq p.name name) people
-applicants_all people name o is = is ∙ sym (position_from-zero (λ (p : Person). bytes_eq p.name name) people)
+-- a number is one of an element
+pub number-below : {X : Type 0} (view : X → Text) (t : Text) (xs : List X) (i : ℕ) → position (bytes_eq t) (map view xs) ≡ Some i → i < length xs
+number-below view t xs i number = omega (arith, length-map xs view, (number_from_position (map view xs) t i number).1)
+
+-- the names of the elements so far, and of one more
+pub names-more : {X : Type 0} (view : X → Text) (xs : List X) (i : ℕ) (x : X) (names : List Text) → slice_get xs i ≡ Some x →
+    names ≡ take i (map view xs) → names ++ view x ∷ [] ≡ take (i + 1) (map view xs)
+names-more view xs i x names at are =
+    let here : slice_get (map view xs) i ≡ Some (view x) = slice_get-map view xs i ∙ ap (option_map view) at in
+    ap (λ ts. ts ++ view x ∷ []) are
+    ∙ (ap (λ t. take i (map view xs) ++ t ∷ []) (sym (get_or_from_slice_get (map view xs) i (view x) [] here))
+    ∙ sym (take_more (map view xs) i [] (slice_get_within (map view xs) i (view x) here)))
+
+-- the next of different names is not among those before
+pub name-new : {X : Type 0} (view : X → Text) (xs : List X) (i : ℕ) (x : X) (names : List Text) → AllPairs (λ a b. a ≢ b) (map view xs) →
+    slice_get xs i ≡ Some x → names ≡ take i (map view xs) → among names (view x) ≡ false
+name-new view xs i x names differ at are =
+    let here : slice_get (map view xs) i ≡ Some (view x) = slice_get-map view xs i ∙ ap (option_map view) at in
+    ap (λ ts. among ts (view x)) are ∙ among-before (map view xs) i (view x) differ here
 
 -- Whether a name is found.
 

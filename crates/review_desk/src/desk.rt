@@ -9,11 +9,11 @@ ghost use Rattle.house_model.specs.Profile.{is_valid};
 ghost use Rattle.review_desk.specs.Desk.{IsSetUp, points_at};
 ghost use Rattle.review_desk.specs.Line.{kind_among, reviewer_of, proposal_of, points_in, took_as, points_after};
 
-use crate::places::{applicants, persons, place_of};
+use crate::places::{applicants, persons, proposal_place, reviewer_place};
 use house_base::limits::MOST_POINTS;
-use house_base::{Grid, Kind, Memory, Name, Plan, ReviewLine, Took};
+use house_base::{Grid, Kind, Memory, Plan, ReviewLine, Took};
+use name_index::NameIndex;
 use std::alloc::Global;
-use std::collections::BTreeMap;
 use std::marker::Model;
 
 /// A review by places: the person's, the applicant's, and the points.
@@ -24,15 +24,15 @@ pub struct Review {
     pub points: u32,
 }
 
-/// The pairs of an assignment, the points that stand for each, and the places of persons and applicants by name,
-/// so that no line is looked up by a walk over a list. Points fit a byte: those of the most applicants take a million
+/// The pairs of an assignment, the points that stand for each, and the names of the persons and of the applicants, so
+/// that no line is looked up by a walk over a list. Points fit a byte: those of the most applicants take a million
 /// bytes.
 #[derive(Drop)]
 pub struct Desk {
     pairs: Grid,
     points: Vec<u8>,
-    reviewers: BTreeMap<Name, u32>,
-    proposals: BTreeMap<Name, u32>,
+    reviewers: NameIndex,
+    proposals: NameIndex,
 }
 
 impl Model for Desk {
@@ -40,7 +40,7 @@ impl Model for Desk {
 
     ghost Value = { Marks };
 
-    ghost view = { λ d. record { pairs = d.pairs; points = d.points.items; reviewers = d.reviewers.entries; proposals = d.proposals.entries } };
+    ghost view = { λ d. record { pairs = d.pairs; points = d.points.items; reviewers = d.reviewers; proposals = d.proposals } };
 
     ghost invariant = { λ d. HoldsPoints d.pairs d.points.items };
 }
@@ -99,10 +99,10 @@ impl Desk {
         ensures proposal_below { IfOk result (λ review. review.proposal < size plan.now) }
         ensures assigned { IfOk result (λ review. IsTrue (cell self.now.pairs review.reviewer review.proposal)) }
     {
-        let Some(reviewer) = place_of(&self.reviewers, line.reviewer) else {
+        let Some(reviewer) = reviewer_place(&self.reviewers, plan, line) else {
             return Err(Kind::Unknown);
         };
-        let Some(proposal) = place_of(&self.proposals, line.proposal) else {
+        let Some(proposal) = proposal_place(&self.proposals, line) else {
             return Err(Kind::Unknown);
         };
         if !self.pairs.get(reviewer, proposal) {

@@ -1,46 +1,51 @@
 //! The places of persons and applicants, by name.
 
-ghost use Rattle.std.specs.Prelude.{◌≡◌, ℕ, List, find, position, IfOk};
-ghost use Rattle.std.specs.Cmp.Lexicographic.{slice_cmp};
-ghost use Rattle.std.specs.Option.{option_map, option_and_then};
-ghost use Rattle.std.specs.Ordering.{nat_cmp};
+ghost use Rattle.std.specs.Prelude.{◌≡◌, map, position, IfOk};
+ghost use Rattle.std.specs.Option.{option_and_then};
 ghost use Rattle.std.specs.Str.{bytes_eq};
-ghost use Rattle.review_desk.specs.Desk.{place_under};
+ghost use Rattle.house_base.specs.Setting.{IsSetting, names_of};
+ghost use Rattle.review_desk.specs.Desk.{person_under};
 
-use house_base::{Memory, Name, Plan};
+use house_base::{Memory, Plan, ReviewLine};
+use name_index::NameIndex;
 use std::alloc::Global;
-use std::collections::BTreeMap;
 
-/// The places of the persons, which are those of their first applicants.
-pub(crate) fn persons(alloc: Global, plan: &Plan) -> Result<BTreeMap<Name, u32>, Memory>
-    ensures { IfOk result (λ places. (name : List ℕ) →
-        place_under places.entries name ≡ option_map (λ owner. owner.first) (find
-        (λ owner. bytes_eq owner.name name) plan.now.owners)) }
+/// The names of the persons, in the order of their first places.
+pub(crate) fn persons(alloc: Global, plan: &Plan) -> Result<NameIndex, Memory>
+    requires { IsSetting plan.now }
+    ensures { IfOk result (λ names. names ≡ map (λ owner. owner.name) plan.now.owners) }
 {
-    let mut places = BTreeMap::new(alloc);
-    for index in (0..plan.owners()).rev() {
-        let owner = plan.owner(index);
-        places.insert(owner.name, owner.first)?;
+    let mut names = NameIndex::new(alloc);
+    for index in 0..plan.owners() {
+        names.add(plan.owner(index).name)?;
     }
-    Ok(places)
+    Ok(names)
 }
 
-/// The places of the applicants.
-pub(crate) fn applicants(alloc: Global, plan: &Plan) -> Result<BTreeMap<Name, u32>, Memory>
-    ensures { IfOk result (λ places. (name : List ℕ) →
-        place_under places.entries name ≡ position (λ person. bytes_eq person.name name) plan.now.people) }
+/// The names of the applicants, in place order.
+pub(crate) fn applicants(alloc: Global, plan: &Plan) -> Result<NameIndex, Memory>
+    ensures { IfOk result (λ names. names ≡ names_of plan.now) }
 {
-    let mut places = BTreeMap::new(alloc);
-    for place in (0..plan.count()).rev() {
-        places.insert(plan.person(place).name, place)?;
+    let mut names = NameIndex::new(alloc);
+    for place in 0..plan.count() {
+        names.add(plan.person(place).name)?;
     }
-    Ok(places)
+    Ok(names)
 }
 
-/// The place under a name, where there is a name and a place under it.
-pub(crate) fn place_of(places: &BTreeMap<Name, u32>, name: Option<Name>) -> Option<u32>
-    ensures { result ≡ option_and_then (place_under places.now.entries) name }
+/// The place of the person that a line names, which is that of its first applicant. None where it names no person.
+pub(crate) fn reviewer_place(persons: &NameIndex, plan: &Plan, line: &ReviewLine) -> Option<u32>
+    requires { persons.now ≡ map (λ owner. owner.name) plan.now.owners }
+    ensures { result ≡ option_and_then (person_under plan.now) line.now.reviewer }
 {
-    let name = name?;
-    places.get(&name).copied()
+    let name = line.reviewer.as_ref()?;
+    let index = persons.find(name)?;
+    Some(plan.owner(index).first)
+}
+
+/// The place of the applicant that a line names. None where it names none.
+pub(crate) fn proposal_place(applicants: &NameIndex, line: &ReviewLine) -> Option<u32>
+    ensures { result ≡ option_and_then (λ name. position (bytes_eq name) applicants.now) line.now.proposal }
+{
+    applicants.find(line.proposal.as_ref()?)
 }

@@ -1,5 +1,4 @@
-use Rattle.std.proofs.Common.{rules, ◌≡◌, Bool, false, true, not}
-use Rattle.std.proofs.lemmas.Grind.{common_steps}
+use Rattle.std.proofs.Common.{rules}
 use Rattle.review_desk.specs.Line.{kind_before}
 use Rattle.review_desk.proofs.kind.kind_before.Goals as goal
 

@@ -1,10 +1,7 @@
-use Rattle.std.proofs.Common.{◌≡◌, List, ℕ, drop}
-use Rattle.std.specs.List.{position_from}
-use Rattle.std.specs.Str.{bytes_eq}
-use Rattle.review_desk.specs.Desk.{place_under}
+use Rattle.std.proofs.Common.{◌≡◌, take}
+use Rattle.house_base.specs.Setting.{names_of}
 use Rattle.review_desk.proofs.places.applicants.Given as goal
 
--- the applicants from a place on have their places
+-- the names of the applicants so far
 abbrev pub invariant-loop-place : goal.invariant-loop-place
-invariant-loop-place l = (name : List ℕ) → place_under l.places.entries name
-    ≡ position_from (λ person. bytes_eq person.name name) l.place (drop l.place l.plan.people)
+invariant-loop-place l = l.names ≡ take l.place (names_of l.plan)

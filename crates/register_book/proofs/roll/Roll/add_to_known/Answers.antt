@@ -1,6 +1,6 @@
 use Rattle.std.proofs.Common.{ap, ◌∙◌, arith, length, position, bytes_eq}
 use Rattle.register_book.specs.Roll.{own_in, persons_in}
-use Rattle.register_book.proofs.IndexLemmas.{number_from_position}
+use Rattle.name_index.proofs.IndexLemmas.{number_from_position}
 use Rattle.register_book.proofs.RollLemmas.{own_in-at, IsRoll-known}
 use Rattle.register_book.proofs.roll.Roll.add_to_known.Goals as goal
 

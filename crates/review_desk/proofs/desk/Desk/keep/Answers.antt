@@ -1,4 +1,4 @@
-use Rattle.std.proofs.Common.{◌≡◌, ℕ, ◌+◌, ◌*◌, ◌<◌, ◌&&◌, nat_eq, cond, get_or, set, sym, ap, ◌∙◌, arith, subst}
+use Rattle.std.proofs.Common.{ℕ, ◌+◌, ◌*◌, ◌&&◌, nat_eq, cond, get_or, set, sym, ap, ◌∙◌, arith, subst}
 use Rattle.house_base.specs.Grid.{cell}
 use Rattle.review_desk.specs.Desk.{Marks, HoldsPoints, points_at}
 use Rattle.review_desk.proofs.DeskLemmas.{points-set, HoldsPoints-set}

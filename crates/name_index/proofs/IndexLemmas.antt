@@ -1,21 +1,20 @@
-use Rattle.std.proofs.Common.{◌≡◌, ◌≢◌, ℕ, ◌+◌, ◌<◌, ◌≤◌, true, false, not, cond, eqb, ltb, List, [], ◌∷◌, ◌++◌, length, get_or, AllPairs, Some, None, position, is_some, bytes_eq, refl, sym, ap, ◌∙◌, subst, inl, inr, arith}
-use Rattle.std.specs.List.{position_or_len, prefix_len}
+use Rattle.std.proofs.Common.{◌≡◌, ◌≢◌, ℕ, ◌+◌, ◌<◌, ◌≤◌, true, false, not, cond, eqb, ltb, List, [], ◌∷◌, ◌++◌, length, get_or, take, AllPairs, Some, None, position, is_some, bytes_eq, refl, sym, ap, ◌∙◌, subst, inl, inr, arith}
+use Rattle.std.specs.List.{position_or_len, prefix_len, slice_get}
 use Rattle.std.specs.BTreeMap.{BTreeMap, get}
 use Rattle.std.specs.Cmp.Lexicographic.{slice_cmp, texts_ties}
 use Rattle.std.specs.Ordering.{nat_cmp, is_eq}
 use Rattle.std.proofs.lemmas.Bool.{cases_Bool, cases_lt, cond-true, cond-false, cond_both, false≢true, lt-ltb, le-ltb, eq-eqb, ne_eqb, not-true}
-use Rattle.std.proofs.lemmas.List.{length_push, get_or_push, get_or_append_left}
+use Rattle.std.proofs.lemmas.List.{length_push, length-take, get_or_push, get_or-take, get_or_append_left}
 use Rattle.std.proofs.lemmas.List.Folds.{prefix_len-append, position_or_len_push}
 use Rattle.std.proofs.lemmas.List.Quantifiers.{all_pairs_push}
-use Rattle.std.proofs.lemmas.Option.{same_Some, none-some}
+use Rattle.std.proofs.lemmas.Option.{same_Some, none-some, slice_get_within, get_or_from_slice_get}
 use Rattle.std.proofs.lemmas.List.Sums.{prefix_len-le-length, position_or_len_is, passes_at_first}
 use Rattle.house_base.specs.declared.limits.TheConstants.{MOST_APPLICANTS}
 use Rattle.house_model.specs.Text.{Text}
 use Rattle.house_model.specs.Register.{among}
 use Rattle.house_model.proofs.InOrderLemmas.{In, In-get_or, In-Contains}
 use Rattle.house_model.proofs.GroupLemmas.{same_text, bytes_eq-same, bytes_eq-other, cases_text, among-In, In-among, not_among, not_In}
-use Rattle.register_book.specs.Roll.{number_in}
-use Rattle.register_book.specs.Index.{IsIndex}
+use Rattle.name_index.specs.Index.{IsIndex, number_in}
 
 -- The number of a text among others.
 
@@ -196,3 +195,18 @@ number_from_position xs t i e = elim (cases_lt (number_in xs t) (length xs)) [
   | inl below ↦ let same = same_Some (number_in xs t) i (sym (position_known xs t below) ∙ e) in (same, omega (arith, same, below))
   | inr above ↦ absurd (none-some i (sym (position_unknown xs t above) ∙ e))
 ]
+
+-- a text without a place has no number either
+pub no_number : (xs : List Text) (t : Text) → position (bytes_eq t) xs ≡ None → length xs ≤ number_in xs t
+no_number xs t e = elim (cases_lt (number_in xs t) (length xs)) [
+  | inl below ↦ absurd (none-some (number_in xs t) (sym e ∙ position_known xs t below))
+  | inr above ↦ above
+]
+
+-- what stands at a place stands nowhere before it, where no two are equal
+pub among-before : (xs : List Text) (i : ℕ) (t : Text) → AllPairs (λ a b. a ≢ b) xs → slice_get xs i ≡ Some t → among (take i xs) t ≡ false
+among-before xs i t differ at = not_among (take i xs) t (λ m.
+    let c = In-Contains t (take i xs) m in
+    let before : c.0 < i = omega (arith, c.1, length-take i xs) in
+    differ c.0 i t before (slice_get_within xs i t at)
+    (sym (get_or-take i xs c.0 t before) ∙ (c.2 ∙ sym (get_or_from_slice_get xs i t t at))))

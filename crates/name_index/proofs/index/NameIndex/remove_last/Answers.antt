@@ -1,5 +1,5 @@
-use Rattle.register_book.proofs.IndexLemmas.{IsIndex-pop}
-use Rattle.register_book.proofs.index.NameIndex.remove_last.Goals as goal
+use Rattle.name_index.proofs.IndexLemmas.{IsIndex-pop}
+use Rattle.name_index.proofs.index.NameIndex.remove_last.Goals as goal
 
 pub invariant_of-self : goal.invariant_of-self
 invariant_of-self c =

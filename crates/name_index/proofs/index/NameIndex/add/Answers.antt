@@ -1,7 +1,7 @@
 use Rattle.std.proofs.Common.{length, ap, ◌∙◌, arith}
 use Rattle.house_model.specs.Register.{among}
-use Rattle.register_book.proofs.IndexLemmas.{IsIndex-push}
-use Rattle.register_book.proofs.index.NameIndex.add.Goals as goal
+use Rattle.name_index.proofs.IndexLemmas.{IsIndex-push}
+use Rattle.name_index.proofs.index.NameIndex.add.Goals as goal
 
 pub invariant_of-self-2 : goal.invariant_of-self-2
 invariant_of-self-2 c =

@@ -21,7 +21,7 @@ pub struct NameIndex {
 
 impl Model for NameIndex {
     ghost use Rattle.std.specs.Prelude.{ℕ, List};
-    ghost use Rattle.register_book.specs.Index.{IsIndex};
+    ghost use Rattle.name_index.specs.Index.{IsIndex};
 
     ghost Value = { List (List ℕ) };
 
@@ -59,21 +59,29 @@ impl NameIndex {
     }
 
     /// The number of a name.
-    pub fn find(&self, name: Name) -> Option<u32>
-        ensures number { result ≡ position (bytes_eq name) self.now }
-        ensures known { is_some result ≡ among self.now name }
+    pub fn find(&self, name: &Name) -> Option<u32>
+        ensures number { result ≡ position (bytes_eq name.now) self.now }
+        ensures known { is_some result ≡ among self.now name.now }
     {
-        match self.hinted(&name) {
+        match self.hinted(name) {
             Some(number) => Some(number),
-            None => self.numbers.get(&name).copied(),
+            None => self.searched(name),
         }
+    }
+
+    /// The number of a name, by a search. It is kept out of `find`, which seldom needs it.
+    #[inline(never)]
+    fn searched(&self, name: &Name) -> Option<u32>
+        ensures { result ≡ position (bytes_eq name.now) self.now }
+    {
+        self.numbers.get(name).copied()
     }
 
     /// The number of a name, where the hint for it is right.
     fn hinted(&self, name: &Name) -> Option<u32>
         ensures { IfSome result (λ number. position (bytes_eq name.now) self.now ≡ Some number) }
     {
-        let number = self.hints.at(name)?;
+        let number = u32::from(self.hints.at(name)?);
         let held = self.names.get(number as usize)?;
         if *held == *name { Some(number) } else { None }
     }
@@ -90,7 +98,7 @@ impl NameIndex {
         self.names.reserve(1)?;
         self.numbers.insert(name, number)?;
         self.names.push_reserved(name);
-        self.hints.put(&name, number);
+        self.hints.put(&name, number as u16);
         Ok(())
     }
 

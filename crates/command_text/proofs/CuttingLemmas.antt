@@ -1,13 +1,14 @@
 -- A text that comes in pieces, and its lines.
-use Rattle.std.proofs.Common.{◌≡◌, ℕ, ◌+◌, Bool, true, false, cond, List, [], ◌∷◌, ◌++◌, take, refl, sym, ap, ◌∙◌, arith, append_assoc, Some, None}
+use Rattle.std.proofs.Common.{◌≡◌, ℕ, ◌+◌, Bool, true, false, cond, eqb, List, [], ◌∷◌, ◌++◌, length, take, refl, sym, ap, ◌∙◌, arith, append_assoc, Some, None}
 use Rattle.std.specs.Prelude.{position}
 use Rattle.std.specs.Option.{option_to_list}
 use Rattle.std.proofs.lemmas.List.{append-nil, take_all}
 use Rattle.std.proofs.lemmas.List.Elements.{All-append, All-nil}
+use Rattle.std.proofs.Math.Dec.{eqb-suc-zero}
 use Rattle.house_model.specs.Text.{Text, Lines, lines, is_empty, without_return}
 use Rattle.house_model.specs.Heard.{whole_lines}
 use Rattle.command_text.specs.Held.{HasNoFeed}
-use Rattle.command_text.specs.Cutting.{Cutting, Feeding, Feeds, EndsLine, GoesOn, AreFed, fresh, last_after, used_bytes, ended_lines, ended_line, rest_of}
+use Rattle.command_text.specs.Cutting.{Cutting, Feeding, Feeds, EndsLine, GoesOn, IsWholeLine, AreFed, fresh, last_after, used_bytes, ended_lines, ended_line, rest_of}
 use Rattle.command_text.proofs.FeedLemmas.{is_feed, no_feed_before, front_with_feed, length_before, lines_at_feed, lines_of_part, whole_lines_at_feed, whole_lines_of_part}
 
 -- a feed that ends a line
@@ -20,6 +21,16 @@ ends_line before piece at old begun line found same none ended = record {
   front_is = front_with_feed piece at found;
   after_is = rw (none, ended, same) refl;
 }
+
+pub nothing_begun : (begun items : Text) → begun ≡ items → eqb (length items) 0 ≡ true → begun ≡ []
+nothing_begun begun [] same none = same
+nothing_begun begun (x ∷ xs) same none = cc (eqb-suc-zero (length xs))
+
+-- a line that stands whole in a piece
+pub whole_line_is : (before : Cutting) (piece line : Text) (at : ℕ) → before.begun ≡ [] → position is_feed piece ≡ Some at → line ≡ without_return (take at piece) →
+    IsWholeLine before piece (at + 1) line
+whole_line_is before piece line at none found is =
+    (record { begun = []; ended = Some (take at piece) }, ends_line before piece at [] [] (take at piece) found none refl refl, ap Some (sym is), sym none)
 
 -- A reading of a text into lines: a line that ends comes first, and a text without a line feed has these lines.
 record IsReading (read last : Text → Lines) : Type 0 where

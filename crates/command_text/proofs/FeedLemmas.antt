@@ -1,17 +1,18 @@
 -- The lines of a text, cut off from its front, and how many they are.
-use Rattle.std.proofs.Common.{◌≡◌, ℕ, suc, ◌+◌, ◌-◌, ◌<◌, Bool, true, false, cond, ltb, eqb, ◌&&◌, List, [], ◌∷◌, ◌++◌, map, length, take, drop, get_or, refl, sym, ap, ◌∙◌, arith, length-drop}
-use Rattle.std.specs.Prelude.{All, Some, None, position}
-use Rattle.std.specs.Option.{option_to_list}
+use Rattle.std.proofs.Common.{◌≡◌, ℕ, suc, ◌+◌, ◌-◌, ◌<◌, ◌≤◌, inl, inr, subst, Bool, true, false, cond, ltb, eqb, ◌&&◌, List, [], ◌∷◌, ◌++◌, map, length, take, drop, get_or, refl, sym, ap, ◌∙◌, arith, length-drop}
+use Rattle.std.specs.Prelude.{All, IfNone, Option, Some, None, position}
+use Rattle.std.specs.Option.{option_map, option_to_list}
 use Rattle.std.specs.Cmp.Lexicographic.{pointwise}
 use Rattle.std.specs.List.{slice_split, position_or_len, before_first, after_first}
-use Rattle.std.proofs.lemmas.List.{drop-drop, take_all, take_more, length-take-le, get_or-take}
-use Rattle.std.proofs.lemmas.List.Elements.{All-take}
-use Rattle.std.proofs.lemmas.List.Sums.{fails_before_first, passes_at_first}
-use Rattle.std.proofs.lemmas.Bool.{eqb-true}
+use Rattle.std.proofs.lemmas.List.{drop-drop, take_all, take_more, length-take-le, get_or-drop, get_or-take}
+use Rattle.std.proofs.lemmas.List.Elements.{All-from_get_or, All-get_or, All-take}
+use Rattle.std.proofs.lemmas.List.Sums.{fails_before_first, passes_at_first, position_or_len_is}
+use Rattle.std.proofs.lemmas.Bool.{cases_lt, eqb-true, le-ltb, lt-ltb, true≢false}
 use Rattle.std.proofs.lemmas.Option.{cond_some}
 use borrow.Author.Tests.{ltb-true}
 use Rattle.std.proofs.lemmas.List.Splits.{slice_split_first, slice_split_none, slice_split_at, length-slice_split}
 use Rattle.std.proofs.Math.Dec.{eqb-suc-zero}
+use Rattle.memchr.specs.Find.{IsFirstByte, Nowhere, Passes, is_byte}
 use Rattle.house_model.specs.Heard.{whole_lines, without_last}
 use Rattle.house_model.specs.Text.{Text, lines, without_return, without_last_empty, is_empty}
 use Rattle.command_text.specs.Held.{HasNoFeed}
@@ -23,6 +24,67 @@ is_feed b = eqb b 10
 no_bytes : (xs : List ℕ) → is_empty xs ≡ eqb (length xs) 0
 no_bytes [] = refl
 no_bytes (x ∷ xs) = sym (eqb-suc-zero (length xs))
+
+refuted : (b : Bool) → ¬ (b ≡ true) → b ≡ false
+refuted true h = absurd (h refl)
+refuted false h = refl
+
+-- the first line feed stands where a search finds it
+pub first_feed : (text : Text) (r : Option ℕ) → IsFirstByte (is_byte 10) text r → r ≡ position is_feed text
+first_feed text None h =
+    let none : position_or_len is_feed text ≡ length text =
+    position_or_len_is is_feed text (length text) 0 (omega arith) (λ k below. refuted (is_feed (get_or text k 0)) (h k (omega arith) below)) (λ below. absurd (omega (arith, below))) in
+    sym
+    (ap (λ n. cond (ltb n (length text)) (Some n) None) none
+    ∙ ap (λ b. cond b (Some (length text)) None) (le-ltb (length text) (length text) (omega arith)))
+first_feed text (Some at) h =
+    let found : position_or_len is_feed text ≡ at =
+    position_or_len_is is_feed text at 0 (omega (arith, h.0.high)) (λ k below. refuted (is_feed (get_or text k 0)) (h.0.before k (omega arith) below)) (λ below. h.1) in
+    sym
+    (ap (λ n. cond (ltb n (length text)) (Some n) None) found
+    ∙ ap (λ b. cond b (Some at) None) (lt-ltb at (length text) h.0.high))
+
+-- where a search finds none, there is none
+pub no_feed_found : (text : Text) (r : Option ℕ) → IsFirstByte (is_byte 10) text r → IfNone r (HasNoFeed text)
+no_feed_found text None h = All-from_get_or (λ byte. is_feed byte ≡ false) text 0 (λ k below. refuted (is_feed (get_or text k 0)) (h k (omega arith) below))
+no_feed_found text (Some at) h = tt
+
+-- a line feed behind a front that has none
+
+module _ (text : Text) (near : ℕ) (fits : near ≤ length text) where
+  front_length : length (take near text) ≡ near
+  front_length = length-take-le near text fits
+
+  nowhere : HasNoFeed (take near text) → (to : ℕ) → Nowhere (Passes (is_byte 10) (drop near text)) 0 to → Nowhere (Passes (is_byte 10) text) 0 (near + to)
+  nowhere none to behind k low below passes = elim (cases_lt k near) [
+    | inl early ↦ true≢false (sym passes ∙ rw (get_or-take near text k 0 early) at (All-get_or (λ byte. is_feed byte ≡ false) (take near text) k 0 (omega (arith, early, front_length)) none))
+    | inr late ↦
+        let there : near + (k - near) ≡ k = omega (arith, late) in
+        behind (k - near) (omega arith) (omega (arith, below, late)) (ap (λ b. eqb b 10) (get_or-drop near text (k - near) 0 ∙ ap (λ i. get_or text i 0) there) ∙ passes)
+  ]
+
+  found_behind : HasNoFeed (take near text) → (r : Option ℕ) → IsFirstByte (is_byte 10) (drop near text) r → IsFirstByte (is_byte 10) text (option_map (λ at. near + at) r)
+  found_behind none None h =
+      subst (λ n. Nowhere (Passes (is_byte 10) text) 0 n) (omega (arith, fits, length-drop near text)) (nowhere none (length (drop near text)) h)
+  found_behind none (Some at) h = (
+    record { low = omega arith; high = omega (arith, h.0.high, length-drop near text, fits); before = nowhere none at h.0.before },
+    ap (λ b. eqb b 10) (sym (get_or-drop near text at 0)) ∙ h.1,
+  )
+
+  -- what a search of what stands behind the front finds
+  search_behind : HasNoFeed (take near text) → (r : Option ℕ) → IsFirstByte (is_byte 10) (take (length text - near) (drop near text)) r →
+      IsFirstByte (is_byte 10) text (option_map (λ at. near + at) r)
+  search_behind none r h =
+      found_behind none r
+      (subst (λ t. IsFirstByte (is_byte 10) t r) (take_all (length text - near) (drop near text) (omega (arith, length-drop near text))) h)
+
+  pub feed_behind : HasNoFeed (take near text) → (r : Option ℕ) → IsFirstByte (is_byte 10) (take (length text - near) (drop near text)) r →
+      option_map (λ at. near + at) r ≡ position is_feed text
+  feed_behind none r h = first_feed text (option_map (λ at. near + at) r) (search_behind none r h)
+
+  pub no_feed_behind : HasNoFeed (take near text) → (r : Option ℕ) → IsFirstByte (is_byte 10) (take (length text - near) (drop near text)) r → r ≡ None → HasNoFeed text
+  no_feed_behind none None h is = no_feed_found text None (search_behind none None h)
+  no_feed_behind none (Some at) h is = cc
 
 -- an empty text has no line
 pub lines_of_none : (xs : List ℕ) → eqb (length xs) 0 ≡ true → lines xs ≡ []

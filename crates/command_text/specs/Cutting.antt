@@ -40,6 +40,11 @@ abbrev pub Feeds : Cutting → Text → ℕ → Bool → Cutting → Type 0
 Feeds before piece used whole after =
     MatchBool whole (EndsLine before piece used after) (GoesOn before piece used after)
 
+-- a line that a feed of a piece ends, using so many bytes of it, where it leaves as much begun as there was
+abbrev pub IsWholeLine : Cutting → Text → ℕ → Text → Type 0
+IsWholeLine before piece used line = (after : Cutting) × EndsLine before piece used after
+    × (ended_line after ≡ Some line) × (after.begun ≡ before.begun)
+
 -- a feed, with what it came to
 pub record Feeding : Type 0 where
   pub piece : Text

@@ -35,8 +35,9 @@ impl Model for Cutter {
 }
 
 impl Cutter {
-    ghost use Rattle.std.specs.Prelude.{◌≡◌, IfOk, OnErr, option_copied};
-    ghost use Rattle.command_text.specs.Cutting.{Feeds, fresh, ended_line, rest_of};
+    ghost use Rattle.std.specs.Prelude.{◌≡◌, [], IfOk, IfSome, IfNone, OnErr, option_copied};
+    ghost use Rattle.command_text.specs.Held.{HasNoFeed};
+    ghost use Rattle.command_text.specs.Cutting.{Feeds, IsWholeLine, fresh, ended_line, rest_of};
 
     /// Nothing was fed.
     pub fn new(alloc: Global) -> Cutter
@@ -46,6 +47,22 @@ impl Cutter {
             begun: Vec::new(alloc),
             line: Vec::new(alloc),
             whole: false,
+        }
+    }
+
+    /// The line that a feed of a piece would end, without its line end, and how many bytes of the piece it would use. It
+    /// is told only of a line that has not begun before the piece, which can be read where it stands: none of it has to
+    /// be fed.
+    pub fn whole_line<'a>(&self, piece: &'a [u8]) -> Option<(&'a [u8], usize)>
+        ensures found { IfSome result (λ found. IsWholeLine self.now piece.now found.1 found.0.now) }
+        ensures none { IfNone result (self.now.begun ≡ [] → HasNoFeed piece.now) }
+    {
+        if !self.begun.is_empty() {
+            return None;
+        }
+        match first_line_feed(piece) {
+            Some(end) => Some((without_return(&piece[..end]), end + 1)),
+            None => None,
         }
     }
 

@@ -8,7 +8,11 @@ ghost use Rattle.command_text.specs.Held.{HasNoFeed};
 use crate::lines::Lines;
 use house_base::Memory;
 use house_model::limits::{MOST_BYTES, MOST_LINES};
+use memchr::memchr;
 use std::alloc::Global;
+
+/// How many bytes are near.
+const NEAR: usize = 4;
 
 /// The lines of a text.
 pub fn cut(alloc: Global, bytes: &[u8]) -> Result<Lines, Memory>
@@ -62,8 +66,24 @@ pub fn first_line(text: &[u8]) -> Option<(&[u8], &[u8])>
     }
 }
 
-/// Where the first line feed stands.
+/// Where the first line feed stands. It may be near, as behind a short comment, so that a few bytes are looked at one by
+/// one before the wide search begins.
 pub(crate) fn first_line_feed(text: &[u8]) -> Option<usize>
+    ensures value { result ≡ position (λ byte. byte == 10) text.now }
+    ensures none { IfNone result (HasNoFeed text.now) }
+{
+    let near = text.len().min(NEAR);
+    match near_line_feed(&text[..near]) {
+        Some(at) => Some(at),
+        None => match memchr(b'\n', &text[near..]) {
+            Some(at) => Some(near + at),
+            None => None,
+        },
+    }
+}
+
+/// The same, of a few bytes.
+fn near_line_feed(text: &[u8]) -> Option<usize>
     ensures value { result ≡ position (λ byte. byte == 10) text.now }
     ensures none { IfNone result (HasNoFeed text.now) }
 {

@@ -22,4 +22,4 @@ pub use house_model::{Command, Verb};
 pub use line::Line;
 pub use lines::Lines;
 pub use print::print_command;
-pub use read::read_line;
+pub use read::{is_blank_at_once, read_line};

@@ -1,6 +1,7 @@
 //! The reading of one line.
 
-ghost use Rattle.std.specs.Prelude.{◌≡◌, slice_index, ◌==◌};
+ghost use Rattle.std.specs.Prelude.{◌≡◌, slice_index, true, ◌==◌, ◌||◌};
+ghost use Rattle.house_model.specs.Text.{is_blank, is_empty};
 ghost use Rattle.house_model.specs.Verbs.{verb_of};
 ghost use Rattle.command_text.specs.Reading.{Reads};
 
@@ -15,6 +16,9 @@ use house_model::Verb;
 pub fn read_line(line: &[u8]) -> Line
     ensures { Reads line.now result }
 {
+    if is_blank_at_once(line) {
+        return Line::Blank;
+    }
     let Some((first, rest)) = next_word(line) else {
         return Line::Blank;
     };
@@ -31,11 +35,22 @@ pub fn read_line(line: &[u8]) -> Line
     }
 }
 
-/// Whether a first word begins a comment.
-fn is_comment(word: &[u8]) -> bool
-    ensures { result ≡ (slice_index word.now 0 == 35) }
+/// Whether a line is seen to be blank by its first byte: it is empty, or it begins as a comment does.
+pub fn is_blank_at_once(line: &[u8]) -> bool
+    ensures value { result ≡ (is_empty line.now || slice_index line.now 0 == 35) }
+    ensures blank { result ≡ true → is_blank line.now ≡ true }
 {
-    matches!(word, [b'#', ..])
+    match line {
+        [] => true,
+        [first, ..] => *first == b'#',
+    }
+}
+
+/// Whether a text begins as a comment does.
+fn is_comment(text: &[u8]) -> bool
+    ensures { result ≡ (slice_index text.now 0 == 35) }
+{
+    matches!(text, [b'#', ..])
 }
 
 /// The command that a word gives.

@@ -1,6 +1,9 @@
 //! Worked lines and texts, and each call that may find no memory with ample memory.
 
-use crate::{Command, Cutter, Fed, Line, Lines, Verb, cut, print_command, read_line, within};
+use crate::{
+    Command, Cutter, Fed, Line, Lines, Verb, cut, is_blank_at_once, print_command, read_line,
+    within,
+};
 use house_base::{Call, Name, Reason, ReviewLine, Seed};
 use std::test::Fail;
 
@@ -171,6 +174,28 @@ fn pieces_are_cut_into_lines(rt: HostRuntime) -> Result<(), Fail> {
         assert_eq!(rt; cutter.feed(piece)?, Fed { used, whole }, "at {piece:?}");
         assert_eq!(rt; cutter.line(), line, "at {piece:?}");
         assert_eq!(rt; cutter.rest(), rest, "at {piece:?}");
+    }
+    Ok(())
+}
+
+#[test]
+fn whole_lines_are_read_where_they_stand(rt: HostRuntime) -> Result<(), Fail> {
+    let mut cutter = Cutter::new(rt.alloc());
+    assert_eq!(rt;
+        cutter.whole_line(b"ab\r\ncd\n"),
+        Some((b"ab".as_slice(), 4))
+    );
+    assert_eq!(rt; cutter.whole_line(b"\n"), Some((b"".as_slice(), 1)));
+    assert_eq!(rt; cutter.whole_line(b"more than a few bytes"), None);
+    let _fed = cutter.feed(b"ab")?;
+    assert_eq!(rt; cutter.whole_line(b"cd\n"), None);
+    for (line, blank) in [
+        (b"".as_slice(), true),
+        (b"#a", true),
+        (b" #", false),
+        (b"a", false),
+    ] {
+        assert_eq!(rt; is_blank_at_once(line), blank, "at {line:?}");
     }
     Ok(())
 }

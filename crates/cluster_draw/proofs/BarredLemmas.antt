@@ -1,12 +1,14 @@
-use Rattle.std.proofs.Common.{◌≡◌, ◌≢◌, ℕ, zero, suc, ◌+◌, ◌*◌, ◌/◌, ◌%◌, ◌<◌, Bool, true, false, ◌&&◌, ◌||◌, ◌==◌, nat_lt, cond, List, [], ◌∷◌, length, get_or, map, take, Some, None, slice_get, refl, sym, ap, ◌∙◌, inl, inr, arith}
+use Rattle.std.proofs.Common.{◌≡◌, ◌≢◌, ℕ, zero, suc, ◌+◌, ◌*◌, ◌/◌, ◌%◌, ◌<◌, ◌≤◌, Bool, true, false, ◌&&◌, ◌||◌, ◌==◌, nat_lt, cond, List, [], ◌∷◌, length, get_or, map, take, Some, None, slice_get, refl, sym, ap, ◌∙◌, inl, inr, arith}
 use Rattle.std.specs.List.{list_any}
 use Rattle.std.specs.Option.{option_map_or}
 use Rattle.std.proofs.Math.Nat.{mul_comm, div-add-mod, mod-lt, div-lt_iff_lt-mul}
-use Rattle.std.proofs.lemmas.Bool.{cases_Bool, cases_eq, false≢true, and_parts, and_left, or_left, or_right, eq-eqb, eqb-true, ne_eqb, false_from_ne_true}
+use Rattle.std.proofs.lemmas.Bool.{cases_Bool, cases_eq, cases_lt, false≢true, and_parts, and_left, or_left, or_right, eq-eqb, eqb-true, ne_eqb, false_from_ne_true}
 use Rattle.std.proofs.lemmas.Bool.Decides.{nat_tests}
-use Rattle.std.proofs.lemmas.List.{ext_get_or, length-map, get_or-map}
+use Rattle.std.proofs.lemmas.List.{ext_get_or, get_or_default, length-map, get_or-map}
+use Rattle.std.proofs.lemmas.List.Elements.{All-get_or}
 use Rattle.std.proofs.lemmas.List.Folds.{list_any_more}
-use Rattle.std.proofs.lemmas.Option.{slice_get_within, get_or_from_slice_get, same_Some}
+use Rattle.std.proofs.lemmas.Option.{slice_get_within, slice_get-get_or, get_or_from_slice_get, same_Some}
+use Rattle.house_base.specs.declared.limits.TheConstants.{MOST_APPLICANTS}
 use Rattle.house_base.specs.declared.plan.Person.{Person}
 use Rattle.house_base.specs.declared.plan.Owner.{Owner}
 use Rattle.house_base.specs.Grid.{Square, cell}
@@ -20,7 +22,7 @@ use Rattle.house_model.proofs.CountingLemmas.{length-numbers_below, get_or-numbe
 use Rattle.house_model.proofs.InOrderLemmas.{In, In-Contains, In-from_Contains}
 use Rattle.house_model.proofs.ReviewerLemmas.{cases_owner, reviewer_at-some, reviewer_at-none}
 use Rattle.cluster_draw.specs.Barred.{name_in, is_barred}
-use Rattle.cluster_draw.specs.Placings.{AreApplicants}
+use Rattle.cluster_draw.specs.Placings.{AreApplicants, GivesOwnPlaces, numbers_in}
 
 -- The square of the barred pairs.
 
@@ -85,13 +87,23 @@ row_set old test first place r p h = elim (cases_eq p place) [
       ∙ (set_elsewhere (r == first) (row_up_to old test first place r p) ∙ row_elsewhere old test first place r p ne)
 ]
 
-pub row_skip : (old : Bool) (test : ℕ → Bool) (first place r p : ℕ) → test place ≡ false → row_up_to old test first place r p ≡ row_up_to old test first (place + 1) r p
-row_skip old test first place r p h = elim (cases_eq p place) [
-  | inl e ↦
-      row_here old test first place r p e
-      ∙ (ap (λ b. old || b) (sym (and_false (first == r)) ∙ ap (λ b. first == r && b) (sym h)) ∙ sym (row_after old test first place r p e))
-  | inr ne ↦ row_elsewhere old test first place r p ne
-]
+-- columns that are not to be set
+pub row_run : (old : Bool) (test : ℕ → Bool) (first from to r p : ℕ) → from ≤ to → ((q : ℕ) → from ≤ q → q < to → test q ≡ false)
+    → row_up_to old test first from r p ≡ row_up_to old test first to r p
+row_run old test first from to r p on none =
+    elim (cases_lt p from) [
+      | inl before ↦
+          ap (λ b. old || (b && (first == r && test p))) (let same : nat_lt p from ≡ nat_lt p to = grind (arith, nat_tests) in same)
+      | inr late ↦ elim (cases_lt p to) [
+        | inl within ↦
+            let unset : (first == r && test p) ≡ false = ap (λ b. first == r && b) (none p late within) ∙ and_false (first == r) in
+            ap (λ b. old || (nat_lt p from && b)) unset
+            ∙ (ap (λ b. old || b) (and_false (nat_lt p from) ∙ sym (and_false (nat_lt p to)))
+            ∙ sym (ap (λ b. old || (nat_lt p to && b)) unset))
+        | inr behind ↦
+            ap (λ b. old || (b && (first == r && test p))) (let same : nat_lt p from ≡ nat_lt p to = grind (arith, nat_tests) in same)
+      ]
+    ]
 
 pub row_start : (old : Bool) (test : ℕ → Bool) (first r p : ℕ) → old ≡ row_up_to old test first 0 r p
 row_start old test first r p = sym (ap (λ b. old || (b && (first == r && test p))) (let late : nat_lt p 0 ≡ false = grind (arith, nat_tests) in late) ∙ or_false old)
@@ -114,15 +126,43 @@ is_barred-more ps people owners i owner r p at =
     (get_or_from_slice_get owners i owner owner at)
 
 -- an applicant, by its register number
-pub number_below : (reg : Register) (applicants : List Person) → AreApplicants reg applicants → (place : ℕ) (x : Person) → slice_get applicants place ≡ Some x
-    → x.number < length reg.applicants
-number_below reg applicants h place x at =
-    omega (arith, slice_get_within (names reg) x.number x.name (h.named place x at), length-map reg.applicants (λ a. a.0))
+pub name_of_number : (reg : Register) (applicants : List Person) → AreApplicants reg applicants → (place : ℕ) → place < length applicants
+    → get_or (names reg) (get_or (numbers_in applicants) place 0) [] ≡ name_in applicants place
+name_of_number reg applicants h place below =
+    let x : Person = get_or applicants place (record { name = []; cluster = 0; number = 0 }) in
+    let at : slice_get applicants place ≡ Some x = slice_get-get_or applicants place (record { name = []; cluster = 0; number = 0 }) below in
+    ap (λ n. get_or (names reg) n []) (get_or-map (λ person. person.number) applicants place (record { name = []; cluster = 0; number = 0 }) 0 below)
+    ∙ (get_or_from_slice_get (names reg) x.number x.name [] (h.named place x at) ∙ sym (ap (λ o. option_map_or (λ person. person.name) o []) at))
 
-pub name_of_place : (reg : Register) (applicants : List Person) → AreApplicants reg applicants → (place : ℕ) (x : Person) → slice_get applicants place ≡ Some x
-    → get_or (names reg) x.number [] ≡ name_in applicants place
-name_of_place reg applicants h place x at =
-    get_or_from_slice_get (names reg) x.number x.name [] (h.named place x at) ∙ sym (ap (λ o. option_map_or (λ person. person.name) o []) at)
+-- a table that gives the places of all numbers
+abbrev GivesPlaces : List Person → List ℕ → Type 0
+GivesPlaces applicants table = (place : ℕ) → place < length applicants → get_or table (get_or (numbers_in applicants) place 0) 0 ≡ place
+
+pub number_in_range : (reg : Register) (applicants : List Person) → AreApplicants reg applicants → (place : ℕ) → place < length applicants
+    → get_or (numbers_in applicants) place 0 < length reg.applicants
+number_in_range reg applicants h place below =
+    let low = All-get_or (λ number. number < length applicants) (numbers_in applicants) place 0 (omega (arith, below, length-map applicants (λ (person : Person). person.number))) h.numbers_below in
+    omega (arith, low, h.many)
+
+place_found : (reg : Register) (applicants : List Person) (table : List ℕ) → AreApplicants reg applicants → GivesPlaces applicants table → (number : ℕ) → number < length reg.applicants
+    → (get_or table number 0 < length applicants) × (get_or (numbers_in applicants) (get_or table number 0) 0 ≡ number)
+place_found reg applicants table h gives number below =
+    let contained = h.each_number number (omega (arith, below, h.many)) in
+    let inside : contained.0 < length applicants = omega (arith, contained.1, length-map applicants (λ (person : Person). person.number)) in
+    let its : get_or (numbers_in applicants) contained.0 0 ≡ number = get_or_default (numbers_in applicants) contained.0 0 number contained.1 ∙ contained.2 in
+    let entry : get_or table number 0 ≡ contained.0 = ap (λ n. get_or table n 0) (sym its) ∙ gives contained.0 inside in
+    (omega (arith, entry, inside), ap (λ k. get_or (numbers_in applicants) k 0) entry ∙ its)
+
+pub own_places : (reg : Register) (applicants : List Person) (table : List ℕ) → AreApplicants reg applicants → length reg.applicants ≤ MOST_APPLICANTS → length table ≡ MOST_APPLICANTS
+    → GivesPlaces applicants table → GivesOwnPlaces (length reg.applicants) table
+own_places reg applicants table h few room gives = record {
+  few = few;
+  room = room;
+  below = λ number below. omega (arith, (place_found reg applicants table h gives number below).0, h.many);
+  differ = λ a b al bl same.
+      sym (place_found reg applicants table h gives a al).1
+      ∙ (ap (λ k. get_or (numbers_in applicants) k 0) same ∙ (place_found reg applicants table h gives b bl).1);
+}
 
 -- Among all persons: the one whose first place this is.
 

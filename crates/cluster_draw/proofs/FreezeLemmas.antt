@@ -1,4 +1,4 @@
-use Rattle.std.proofs.Common.{◌≡◌, ℕ, ◌+◌, ◌*◌, ◌<◌, ◌≤◌, true, ◌||◌, is_some, List, [], ◌∷◌, length, map, flat_map, All, Option, Some, None, slice_get, option_map, refl, sym, ap, ◌∙◌, subst, inl, inr, arith, length-append}
+use Rattle.std.proofs.Common.{◌≢◌, Contains, AllPairs, ◌≡◌, ℕ, ◌+◌, ◌*◌, ◌<◌, ◌≤◌, true, ◌||◌, is_some, List, [], ◌∷◌, length, map, flat_map, All, Option, Some, None, slice_get, option_map, refl, sym, ap, ◌∙◌, subst, inl, inr, arith, length-append}
 use Rattle.std.specs.List.Sorted.{IsPermutation}
 use Rattle.std.proofs.lemmas.List.{length-map}
 use Rattle.std.proofs.lemmas.List.Sorted.{length_permutation}
@@ -22,7 +22,7 @@ use Rattle.house_model.proofs.RegisterPeopleLemmas.{length-own_people, own_count
 use Rattle.house_model.proofs.RegisterSettingLemmas.{MakesSetting, names-owners_from}
 use Rattle.house_model.proofs.SeedLemmas.{IsOrder-permutation, IsOrder-seeded, MakesSetting-drawn, setting_in-seeded}
 use Rattle.cluster_draw.specs.Barred.{is_barred}
-use Rattle.cluster_draw.specs.Placings.{name_of, names_of, ArePlacings, applicants_in, AreApplicants, AreReviewers}
+use Rattle.cluster_draw.specs.Placings.{name_of, names_of, ArePlacings, applicants_in, numbers_in, AreApplicants, AreReviewers}
 use Rattle.cluster_draw.specs.declared.placings.Placing.{Placing}
 use Rattle.cluster_draw.proofs.PeopleLemmas.{applicants_in-people}
 use Rattle.cluster_draw.proofs.SettingLemmas.{OfPersons, setting_in-parts}
@@ -139,11 +139,23 @@ module _ (seed : Option Text) (seats clusters reviews : ℕ) (reg : Register) (p
   in_order : IsOrder (seeded_register seed clusters reg) (seeded_persons seed reg)
   in_order = IsOrder-seeded seed clusters reg f.order
 
+  -- the numbers of the applicants are those of the register, each once
+  numbers_frozen : (people : List Person) → people ≡ people_in (seeded_register seed clusters reg) (seeded_persons seed reg)
+      → All (λ number. number < length people) (numbers_in people) × AllPairs (λ a b. a ≢ b) (numbers_in people) × ((number : ℕ) → number < length people → Contains (numbers_in people) number)
+  unfolding setting_in open_setting_in
+  numbers_frozen people e =
+      let s = IsSetting-setting_in seats clusters reviews (seeded_register seed clusters reg) (seeded_persons seed reg) (makes seed seats clusters reviews reg placings f) in_order in
+      let P : List Person → Type 0 = λ l. All (λ number. number < length l) (numbers_in l) × AllPairs (λ a b. a ≢ b) (numbers_in l) × ((number : ℕ) → number < length l → Contains (numbers_in l) number) in
+      subst P (sym e) (s.numbers_below, s.numbers_differ, s.each_number)
+
   pub AreApplicants-frozen : (people : List Person) → people ≡ applicants_in reg placings → AreApplicants reg people
   AreApplicants-frozen people e =
       let drawn = seeded_register seed clusters reg in
       let all = e ∙ people_are in
       record {
+        numbers_below = (numbers_frozen people all).0;
+        numbers_differ = (numbers_frozen people all).1;
+        each_number = (numbers_frozen people all).2;
         many = ap length all ∙ (length-people_in (seeded_register seed clusters reg) (seeded_persons seed reg) in_order ∙ ap length (same_applicants seed clusters reg));
         named = λ place person at.
             ap (λ l. slice_get (map (λ a. a.0) l) person.number) (sym (same_applicants seed clusters reg))

@@ -1,6 +1,7 @@
-use Rattle.std.specs.Prelude.{◌≡◌, ℕ, ◌<◌, All, List, Some, length, map, filter, flat_map, slice_get}
+use Rattle.std.specs.Prelude.{◌≡◌, ◌≢◌, ℕ, ◌<◌, ◌≤◌, All, AllPairs, Contains, List, Some, length, map, filter, flat_map, slice_get, slice_index}
 use Rattle.std.specs.List.{enumerate_from}
 use Rattle.std.specs.Str.{bytes_eq}
+use Rattle.house_base.specs.declared.limits.TheConstants.{MOST_APPLICANTS}
 use Rattle.house_base.specs.declared.plan.Person.{Person}
 use Rattle.house_base.specs.declared.plan.Owner.{Owner}
 use Rattle.house_model.specs.Register.{Register, names, persons, cluster_of}
@@ -31,9 +32,16 @@ unfoldable pub applicants_in : Register → List Placing → List Person
 applicants_in reg placings =
     flat_map (λ placing. own_rows (name_of reg placing) placing.cluster (enumerate_from 0 reg.applicants)) placings
 
--- the applicants of a register, each with the name that has its number
+-- the register numbers of applicants
+abbrev pub numbers_in : List Person → List ℕ
+numbers_in applicants = map (λ person. person.number) applicants
+
+-- the applicants of a register, each with the name that has its number, and one for each number
 pub record AreApplicants (reg : Register) (applicants : List Person) : Type 0 where
   pub many : length applicants ≡ length reg.applicants
+  pub numbers_below : All (λ number. number < length applicants) (numbers_in applicants)
+  pub numbers_differ : AllPairs (λ a b. a ≢ b) (numbers_in applicants)
+  pub each_number : (number : ℕ) → number < length applicants → Contains (numbers_in applicants) number
   pub named : (place : ℕ) (person : Person) → slice_get applicants place ≡ Some person
       → slice_get (names reg) person.number ≡ Some person.name
 
@@ -46,3 +54,10 @@ pub record AreReviewers (reg : Register) (placings : List Placing) (reviewers : 
       → slice_get reviewers index ≡ Some owner → name_of reg placing ≡ owner.name
   pub first : (index : ℕ) (owner : Owner) → slice_get reviewers index ≡ Some owner
       → owner.first < length reg.applicants
+
+-- a table gives each number below so many a place of its own below so many
+pub record GivesOwnPlaces (n : ℕ) (table : List ℕ) : Type 0 where
+  pub few : n ≤ MOST_APPLICANTS
+  pub room : length table ≡ MOST_APPLICANTS
+  pub below : (number : ℕ) → number < n → slice_index table number < n
+  pub differ : (a b : ℕ) → a < n → b < n → slice_index table a ≡ slice_index table b → a ≡ b

@@ -1,47 +1,13 @@
-use Rattle.std.proofs.Common.{◌≡◌, ℕ, ◌<◌, Bool, true, false, ◌&&◌, ◌||◌, refl, sym, ◌∙◌, subst, inl, inr}
-use Rattle.std.proofs.lemmas.Bool.{cases_Bool, both_ways, true_from_ne_false, and_parts, or_cases}
+use Rattle.std.proofs.Common.{◌≡◌, ℕ, ◌<◌, true, false, sym, subst, inl, inr}
+use Rattle.std.proofs.lemmas.Bool.{cases_Bool, both_ways, true_from_ne_false}
 use Rattle.house_base.specs.Grid.{Square, cell}
 use Rattle.house_model.specs.Profile.{Pairs}
 use Rattle.house_model.specs.Shortage.{Demand, Places}
-use Rattle.assign_flow.specs.Residual.{Residual, IsClosed, residual}
+use Rattle.assign_flow.specs.Residual.{IsClosed, residual}
 use Rattle.assign_flow.proofs.DemandLemmas.{Meets}
 use Rattle.assign_flow.proofs.SettleLemmas.{AgreeOutside, free_graph, none-gained, none-lost}
 
 -- Sets out of which no way leads.
-
-pub closed-none : (g : Residual) (a b : Places) → ((r : ℕ) → r < g.side → a r ≡ false) → ((p : ℕ) → p < g.side → b p ≡ false) → IsClosed g a b
-closed-none g a b reviewers proposals = record {
-  forward = λ r p l k inside f h. absurd (both_ways (a r) (reviewers r l) inside);
-  back = λ r p l k inside f h. absurd (both_ways (b p) (proposals p k) inside);
-}
-
-either : (stays was new : Bool) → (stays ≡ true) × (was ≡ true) → ((stays && was) || new) ≡ true
-either true true new h = refl
-either true false new h = absurd (both_ways false refl h.1)
-either false was new h = absurd (both_ways false refl h.0)
-
-or_new : (b new : Bool) → new ≡ true → (b || new) ≡ true
-or_new true new h = refl
-or_new false new h = h
-
--- two closed sets together, or the second one alone
-pub closed-joined : (g : Residual) (stays : Bool) (a b c e new_a new_b : Places)
-    → ((r : ℕ) → r < g.side → new_a r ≡ ((stays && a r) || c r)) → ((p : ℕ) → p < g.side → new_b p ≡ ((stays && b p) || e p))
-    → IsClosed g a b → IsClosed g c e → IsClosed g new_a new_b
-closed-joined g stays a b c e new_a new_b reviewers proposals first second = record {
-  forward = λ r p l k inside f h. elim (or_cases (stays && a r) (c r) (sym (reviewers r l) ∙ inside)) [
-    | inl old ↦
-        let both = and_parts stays (a r) old in
-        proposals p k ∙ either stays (b p) (e p) (both.0, first.forward r p l k both.1 f h)
-    | inr new ↦ proposals p k ∙ or_new (stays && b p) (e p) (second.forward r p l k new f h)
-  ];
-  back = λ r p l k inside f h. elim (or_cases (stays && b p) (e p) (sym (proposals p k) ∙ inside)) [
-    | inl old ↦
-        let both = and_parts stays (b p) old in
-        reviewers r l ∙ either stays (a r) (c r) (both.0, first.back r p l k both.1 f h)
-    | inr new ↦ reviewers r l ∙ or_new (stays && a r) (c r) (second.back r p l k new f h)
-  ];
-}
 
 -- with fewer free pairs a closed set stays closed
 pub closed-fewer : (n : ℕ) (free less held : Pairs) (a b : Places) → ((r p : ℕ) → r < n → p < n → less r p ≡ true → free r p ≡ true)

@@ -1,18 +1,17 @@
-use Rattle.std.proofs.Common.{◌≡◌, ◌≢◌, ℕ, zero, suc, ◌+◌, ◌<◌, Bool, true, false, not, List, length, get_or, set, sym, ap, ◌∙◌, inl, inr, arith}
-use Rattle.std.proofs.lemmas.Bool.{cases_eq, both_ways}
+use Rattle.std.proofs.Common.{◌≡◌, ◌≢◌, ℕ, zero, suc, ◌+◌, ◌<◌, Bool, true, false, not, ◌||◌, eqb, refl, sym, ap, ◌∙◌, inl, inr, arith}
+use Rattle.std.proofs.lemmas.Bool.{cases_eq, both_ways, eq-eqb, ne_eqb}
 use Rattle.house_model.specs.Counting.{count_below}
 use Rattle.house_model.proofs.CountingLemmas.{one_if, below_suc, count_below-suc, count_below-same, count_below-passes, count_below-fails, count_below-more}
-use Rattle.std.proofs.lemmas.List.{get_or-set_same, get_or-set_other}
 
--- after a mark is set, fewer places have none
-pub marks-fewer : (marks more : List Bool) (n at : ℕ) → at < n → at < length marks → more ≡ set marks at true → get_or marks at false ≡ false
-    → count_below (λ i. not (get_or more i false)) n < count_below (λ i. not (get_or marks i false)) n
-marks-fewer marks more n at l within e h =
-    let here : get_or more at false ≡ true = ap (λ xs. get_or xs at false) e ∙ get_or-set_same marks at true false within in
-    count_below-more (λ i. not (get_or more i false)) (λ i. not (get_or marks i false)) n at
+-- after a place is marked, fewer places are not
+pub marks-fewer : (marks more : ℕ → Bool) (n at : ℕ) → at < n → ((i : ℕ) → more i ≡ (eqb i at || marks i)) → marks at ≡ false
+    → count_below (λ i. not (more i)) n < count_below (λ i. not (marks i)) n
+marks-fewer marks more n at l e h =
+    let here : more at ≡ true = e at ∙ ap (λ b. b || marks at) (eq-eqb at at refl) in
+    count_below-more (λ i. not (more i)) (λ i. not (marks i)) n at
     (λ i il o. elim (cases_eq i at) [
-      | inl same ↦ absurd (both_ways (not (get_or more i false)) (ap (λ k. not (get_or more k false)) same ∙ ap not here) o)
-      | inr other ↦ ap not (sym (ap (λ xs. get_or xs i false) e ∙ get_or-set_other marks at i true false other)) ∙ o
+      | inl same ↦ absurd (both_ways (not (more i)) (ap (λ k. not (more k)) same ∙ ap not here) o)
+      | inr other ↦ ap not (ap (λ b. b || marks i) (sym (ne_eqb i at other)) ∙ sym (e i)) ∙ o
     ])
     l (ap not here) (ap not h)
 

@@ -1,10 +1,8 @@
-use Rattle.std.proofs.Common.{◌≡◌, ℕ, ◌<◌, Bool, true, false, not, ◌&&◌, cond, List, None, Some, IsTrue, refl, sym, ap, ◌∙◌, subst, arith}
+use Rattle.std.proofs.Common.{◌≡◌, ℕ, ◌<◌, Bool, true, false, not, ◌&&◌, cond, None, Some, IsTrue, refl, sym, ap, ◌∙◌, subst}
 use Rattle.std.proofs.lemmas.Bool.{and_from}
-use Rattle.house_base.specs.Grid.{Square, cell}
-use Rattle.house_model.specs.Counting.{count_below}
+use Rattle.house_base.specs.Grid.{cell}
 use Rattle.house_model.specs.Profile.{Pairs}
 use Rattle.house_model.specs.Shortage.{is_met}
-use Rattle.cut_gap.specs.Cut.{demand_of}
 use Rattle.assign_flow.specs.Residual.{residual}
 use Rattle.assign_flow.specs.Reroute.{IsRerouted, IsBlocked}
 use Rattle.assign_flow.specs.Flow.{FlowParts, flow_demand, CanHold}
@@ -26,15 +24,14 @@ settled_parts false free held kept e = absurd (some_none kept e)
 
 -- the parts of a flow fit: as its invariant says
 pub record IsFlow (f : FlowParts) : Type 0 where
-  pub held_side : f.held.side ≡ f.may.side
   pub free_side : f.free.side ≡ f.may.side
   pub meets : IsTrue (is_met (flow_demand f) (cell f.held))
   pub inside : (r p : ℕ) → r < f.may.side → p < f.may.side → cell f.free r p ≡ true → cell f.may r p ≡ true
 
-pub can-hold : (f : FlowParts) (y : Pairs) (r p : ℕ) → IsFlow f → IsRerouted f.held.side (cell f.free) (cell f.held) y r p → CanHold f r p
+pub can-hold : (f : FlowParts) (y : Pairs) (r p : ℕ) → IsFlow f → IsRerouted f.free.side (cell f.free) (cell f.held) y r p → CanHold f r p
 can-hold f y r p h route =
     let P : ℕ → Type 0 = λ n. IsRerouted n (cell f.free) (cell f.held) y r p in
-    let here = subst P h.held_side route in
+    let here = subst P h.free_side route in
     record {
       pairs = y;
       meets = is_met-from (flow_demand f) y (meets-rerouted (flow_demand f) (cell f.free) (cell f.held) y r p (is_met-each (flow_demand f) (cell f.held) h.meets) h.inside here);
@@ -59,23 +56,3 @@ still_free true x y e h = absurd (true_is_not_false (sym h ∙ e))
     true_is_not_false : true ≡ false → ⊥
     true_is_not_false w = cc
 still_free false x y e h = sym e ∙ h
-
--- pairs that meet all that is asked meet it as it is copied
-pub met-copied : (needs rooms : List ℕ) (may copy : Square) (x : Pairs) → copy.side ≡ may.side → ((r p : ℕ) → r < may.side → p < may.side → cell copy r p ≡ cell may r p)
-    → IsTrue (is_met (demand_of needs rooms may) x) → IsTrue (is_met (demand_of needs rooms copy) x)
-met-copied needs rooms may copy x side cells met =
-    let h = is_met-each (demand_of needs rooms may) x met in
-    is_met-from (demand_of needs rooms copy) x (record {
-      permitted = λ r p l k o. cells r p (omega arith) (omega arith) ∙ h.permitted r p (omega arith) (omega arith) o;
-      needs = λ r l. ap (count_below (x r)) side ∙ h.needs r (omega arith);
-      rooms = λ p l. ap (count_below (λ r. x r p)) side ∙ h.rooms p (omega arith);
-    })
-
--- and as it is kept in other lists and another square with the same content
-pub met-kept : (needs rooms more_needs more_rooms : List ℕ) (may held more_held : Square) → more_needs ≡ needs → more_rooms ≡ rooms → more_held ≡ held
-    → IsTrue (is_met (demand_of needs rooms may) (cell held)) → IsTrue (is_met (demand_of more_needs more_rooms may) (cell more_held))
-met-kept needs rooms more_needs more_rooms may held more_held e f g met =
-    let P : List ℕ → Type 0 = λ xs. IsTrue (is_met (demand_of xs rooms may) (cell held)) in
-    let Q : List ℕ → Type 0 = λ xs. IsTrue (is_met (demand_of more_needs xs may) (cell held)) in
-    let R : Square → Type 0 = λ s. IsTrue (is_met (demand_of more_needs more_rooms may) (cell s)) in
-    subst R (sym g) (subst Q (sym f) (subst P (sym e) met))

@@ -4,6 +4,7 @@ pub mod CountLemmas
 pub mod DemandLemmas
 pub mod DraftLemmas
 pub mod FlowLemmas
+pub mod PlaceLemmas
 pub mod RerouteLemmas
 pub mod SettleLemmas
 pub mod ShortageLemmas

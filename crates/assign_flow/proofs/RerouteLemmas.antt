@@ -1,7 +1,8 @@
-use Rattle.std.proofs.Common.{◌≡◌, ◌≢◌, ℕ, zero, suc, ◌+◌, ◌<◌, ◌≤◌, ◌⊎◌, Bool, true, false, not, ◌&&◌, cond, eqb, List, slice_index, Option, None, Some, refl, sym, ap, ◌∙◌, inl, inr, arith}
+use Rattle.std.proofs.Common.{◌≡◌, ◌≢◌, ℕ, zero, suc, ◌+◌, ◌<◌, ◌≤◌, ◌⊎◌, Bool, true, false, not, ◌&&◌, cond, eqb, Option, None, Some, refl, sym, ap, ◌∙◌, inl, inr, arith}
 use Rattle.std.proofs.lemmas.Bool.{cases_Bool, both_ways, true≢false, and_parts, and_from, not-true, eqb-true, eq-eqb, ne_eqb, true_from_ne_false, cases_lt, le-ltb}
 use Rattle.house_model.specs.Counting.{count_below}
 use Rattle.house_model.specs.Profile.{Pairs}
+use Rattle.house_model.specs.Shortage.{Places}
 use Rattle.house_model.proofs.CountingLemmas.{one_if, count_below-zero, count_below-suc, count_below-none, count_below-passes, count_below-fails}
 use Rattle.assign_flow.specs.declared.walk.End.{End}
 use Rattle.assign_flow.specs.declared.walk.End.TheVariants.{AtReviewer, AtProposal}
@@ -116,9 +117,9 @@ leads-turned g t x y r p next h w turned =
     (λ i q il ql ne. turned.loss.other i q il ql (λ j k. ne j) ∙ turned.gain.other i q il ql (λ j k. ne j))
 
 -- the walk ends at the proposal
-pub source-end : (g : Residual) (t : Tree) (y z : Pairs) (p next : ℕ) (end : End) (spare : List ℕ) → IsGrown g nowhere (only p) spare t → WalksBack g.side t y z next end → (end ≡ AtProposal p) × (t.proposal_from p ≡ None)
-source-end g t y z p next (AtReviewer s) spare h w = absurd (true≢false (sym (h.reviewer_sources s w.source.0 w.source.1 w.source.2)))
-source-end g t y z p next (AtProposal s) spare h w =
+pub source-end : (g : Residual) (t : Tree) (y z : Pairs) (p next : ℕ) (end : End) (room : Places) → IsGrown g nowhere (only p) room t → WalksBack g.side t y z next end → (end ≡ AtProposal p) × (t.proposal_from p ≡ None)
+source-end g t y z p next (AtReviewer s) room h w = absurd (true≢false (sym (h.reviewer_sources s w.source.0 w.source.1 w.source.2)))
+source-end g t y z p next (AtProposal s) room h w =
     let same = eqb-true s p (h.proposal_sources s w.source.0 w.source.1 w.source.2) in
     (ap AtProposal same, ap t.proposal_from (sym same) ∙ w.source.2)
 
@@ -195,14 +196,14 @@ rerouted-others g t x y z r p next i q h w turned along il ql fixed = elim (whic
     walked false true e f = absurd (both_ways (g.free i q) fixed (h.proposal_free q i ql (along.gain_reached i q il ql e f) (along.gain_from i q il ql e f)))
     walked true false e f = absurd (both_ways (g.free i q) fixed (h.reviewer_free i q il (along.loss_reached i q il ql e f) (along.loss_from i q il ql e f)))
 
-pub rerouted : (g : Residual) (t : Tree) (x y z : Pairs) (r p next : ℕ) (end : End) (spare : List ℕ) → IsGrown g nowhere (only p) spare t → HasWay g t r p next → IsTurned g x y r p next → WalksBack g.side t y z next end
+pub rerouted : (g : Residual) (t : Tree) (x y z : Pairs) (r p next : ℕ) (end : End) (room : Places) → IsGrown g nowhere (only p) room t → HasWay g t r p next → IsTurned g x y r p next → WalksBack g.side t y z next end
     → IsRerouted g.side g.free g.held z r p
-rerouted g t x y z r p next end spare reached w turned walk =
+rerouted g t x y z r p next end room reached w turned walk =
     let h = reached.grown in
     let n = g.side in
     let next_below = w.next_below in
     let holding = still_held g t x y r p next h w turned in
-    let ends = source-end g t y z p next end spare reached walk in
+    let ends = source-end g t y z p next end room reached walk in
     let rows : (i : ℕ) → i < n → count_below (z i) n ≡ count_below (g.held i) n = λ i l.
     omega (
       arith,
@@ -231,39 +232,30 @@ rerouted g t x y z r p next end spare reached w turned walk =
           (λ i q il ql old new. rerouted-loss g t x y z r p next i q h w turned walk.along il ql old new);
     }
 
--- what a reviewer offers
-pub offered : (free held : Bool) (n : ℕ) → n ≡ cond (free && held) 1 0 → 0 < n → (free ≡ true) × (held ≡ true)
-offered true true n e h = (refl, refl)
-offered true false n e h = absurd (omega arith)
-offered false held n e h = absurd (omega arith)
-
-pub offered-both : (free held : Bool) (n : ℕ) → n ≡ cond (free && held) 1 0 → free ≡ true → held ≡ true → n ≡ 1
-offered-both free held n e f h = e ∙ ap {B = ℕ} (λ b. cond b 1 0) (and_from free held f h)
-
--- the spare room that a reviewer's offers are
-abbrev pub Offers : Residual → List ℕ → ℕ → Type 0
-Offers g spare r = (q : ℕ) → q < g.side → slice_index spare q ≡ cond (g.free r q && g.held r q) 1 0
+-- the room of the proposals that a reviewer offers
+abbrev pub Offers : Residual → Places → ℕ → Type 0
+Offers g room r = (q : ℕ) → q < g.side → room q ≡ (g.free r q && g.held r q)
 
 -- a reviewer is not reached from the proposals that it offers
-pub unreached-reviewer : (g : Residual) (t : Tree) (r p : ℕ) (spare : List ℕ) → IsGrown g nowhere (only p) spare t → Offers g spare r → r < g.side → t.order r ≡ 0
-unreached-reviewer g t r p spare h offers l = elim (cases_lt 0 (t.order r)) [
+pub unreached-reviewer : (g : Residual) (t : Tree) (r p : ℕ) (room : Places) → IsGrown g nowhere (only p) room t → Offers g room r → r < g.side → t.order r ≡ 0
+unreached-reviewer g t r p room h offers l = elim (cases_lt 0 (t.order r)) [
   | inl reached ↦ elim (cases_Option (t.reviewer_from r)) [
     | inl source ↦ absurd (true≢false (sym (h.reviewer_sources r l reached source)))
     | inr some ↦
         let q = some.0 in
         let below = h.grown.reviewer_below r q l reached some.1 in
-        let one = offered-both (g.free r q) (g.held r q) (slice_index spare q) (offers q below) (h.grown.reviewer_free r q l reached some.1) (h.grown.reviewer_held r q l reached some.1) in
-        absurd (omega (arith, one, h.by_full r q l reached some.1))
+        let one = offers q below ∙ and_from (g.free r q) (g.held r q) (h.grown.reviewer_free r q l reached some.1) (h.grown.reviewer_held r q l reached some.1) in
+        absurd (both_ways (room q) (h.by_full r q l reached some.1) one)
   ]
   | inr none ↦ omega arith
 ]
 
 -- where the search ends without an offer that is reached, the pair is blocked
-pub blocked-reached : (g : Residual) (t : Tree) (r p : ℕ) (spare : List ℕ) → IsGrown g nowhere (only p) spare t → HasReached g nowhere (only p) t → Offers g spare r → r < g.side → p < g.side → IsBlocked g r p
-blocked-reached g t r p spare h reached offers l k = record {
+pub blocked-reached : (g : Residual) (t : Tree) (r p : ℕ) (room : Places) → IsGrown g nowhere (only p) room t → HasReached g nowhere (only p) t → Offers g room r → r < g.side → p < g.side → IsBlocked g r p
+blocked-reached g t r p room h reached offers l k = record {
   reviewers = reviewers_of t;
   proposals = t.reached;
   closed = reached.closed;
   inside = reached.has_proposals p k (eq-eqb p p refl);
-  outside = le-ltb 0 (t.order r) (omega (arith, unreached-reviewer g t r p spare h offers l));
+  outside = le-ltb 0 (t.order r) (omega (arith, unreached-reviewer g t r p room h offers l));
 }

@@ -199,3 +199,10 @@ some_wanting f n h = elim (cases_lt 0 (sum_below f n)) [
 pub sum-places : (xs : List ℕ) → sum xs ≡ sum_below (slice_index xs) (length xs)
 sum-places [] = sym (sum_below-zero (slice_index []))
 sum-places (x ∷ xs) = sum_by-cons (λ y. y) x xs ∙ (ap (λ k. x + k) (sum-places xs) ∙ sym (sum_below-first (slice_index (x ∷ xs)) (length xs)))
+
+-- where nothing is wanting, the number is 0
+pub unwanted : (n : ℕ) → ltb 0 n ≡ false → n ≡ 0
+unwanted n h = elim (cases_lt 0 n) [
+  | inl some ↦ absurd (both_ways (ltb 0 n) h (lt-ltb 0 n some))
+  | inr none ↦ omega arith
+]

@@ -1,9 +1,10 @@
-use Rattle.std.proofs.Common.{◌≡◌, ◌≢◌, ℕ, ◌+◌, ◌<◌, ◌≤◌, ◌⊎◌, Bool, true, false, not, List, slice_index, ◌&&◌, eqb, ltb, Option, None, Some, refl, sym, ap, ◌∙◌, inl, inr, arith}
+use Rattle.std.proofs.Common.{◌≡◌, ◌≢◌, ℕ, ◌+◌, ◌<◌, ◌≤◌, ◌⊎◌, Bool, true, false, not, ◌&&◌, ◌||◌, cond, ltb, Option, None, Some, refl, sym, ap, ◌∙◌, subst, inl, inr, arith}
+use Rattle.std.specs.Prelude.{IfSome, IfNone}
 use Rattle.std.specs.Option.{option_map_or}
-use Rattle.std.proofs.lemmas.Bool.{cases_eq, ltb-true, lt-ltb, le-ltb, both_ways, eqb-true, eq-eqb, and_parts, and_from, not-true}
+use Rattle.std.proofs.lemmas.Bool.{cases_eq, cases_lt, false_from_ne_true, ltb-true, lt-ltb, le-ltb, both_ways, and_parts, and_from, not-true, or_cases}
 use Rattle.house_model.specs.Counting.{count_below}
-use Rattle.house_model.specs.Shortage.{Places, IsWithin}
-use Rattle.assign_flow.specs.Residual.{Residual, ComeByFull, Tree, reviewers_of, height, IsTree, GoesOn, ReachesReviewer, ReachesProposal}
+use Rattle.house_model.specs.Shortage.{Places}
+use Rattle.assign_flow.specs.Residual.{Residual, Tree, reviewers_of, height, IsTree, IsGrown, IsSought, IsUnderWay, HasReached, ReachesReviewer, ReachesProposal}
 use Rattle.house_model.proofs.CountingLemmas.{count_below-none, count_below-all, count_below-more, count_below-same}
 use Rattle.assign_flow.proofs.CountLemmas.{count_below-turned}
 
@@ -50,18 +51,6 @@ tree-none g t count reviewers proposals =
       proposal_free = λ p r l o. absurd (no_proposal p l o);
       proposal_open = λ p r l o. absurd (no_proposal p l o);
     }
-
--- A search that goes on.
-
-pub goes_on-trans : (g : Residual) (t u v : Tree) → GoesOn g t u → GoesOn g u v → GoesOn g t v
-goes_on-trans g t u v first second = record {
-  reviewers = λ r l o. second.reviewers r l (first.reviewers r l o);
-  proposals = λ p l o. second.proposals p l (first.proposals p l o);
-  least_reviewers = λ a b closed ra pb. second.least_reviewers a b closed (first.least_reviewers a b closed ra pb) (first.least_proposals a b closed ra pb);
-  least_proposals = λ a b closed ra pb. second.least_proposals a b closed (first.least_reviewers a b closed ra pb) (first.least_proposals a b closed ra pb);
-  reviewer_sources = λ r l o e. let f = second.reviewer_sources r l o e in first.reviewer_sources r l f.0 f.1;
-  proposal_sources = λ p l o e. let f = second.proposal_sources p l o e in first.proposal_sources p l f.0 f.1;
-}
 
 -- One reviewer more.
 
@@ -154,22 +143,6 @@ tree-reviewer g t u r from h step rl new way = record {
 pub none_some : {A : Type 0} (x : A) → Some x ≡ None → ⊥
 none_some x e = cc
 
-pub goes_on-reviewer : (g : Residual) (t u : Tree) (r p : ℕ) → ReachesReviewer t u r (Some p) → r < g.side → t.order r ≡ 0 → ComesFrom g t r p → GoesOn g t u
-goes_on-reviewer g t u r p step rl new way = record {
-  reviewers = λ i il o. omega (arith, o, step.other_order i (other_reviewer t r i new o));
-  proposals = λ q ql o. step.reached q ∙ o;
-  least_reviewers = λ a b closed ra pb i il o. elim (which_reviewer t u r i (Some p) step (ltb-true 0 (u.order i) o)) [
-    | inl here ↦ ap a here ∙ closed.back r p rl way.below (pb p way.below way.reached) way.free way.held
-    | inr there ↦ ra i il (lt-ltb 0 (t.order i) there.1)
-  ];
-  least_proposals = λ a b closed ra pb q ql o. pb q ql (sym (step.reached q) ∙ o);
-  reviewer_sources = λ i il o e. elim (which_reviewer t u r i (Some p) step o) [
-    | inl here ↦ absurd (none_some p (sym step.here_from ∙ (ap u.reviewer_from (sym here) ∙ e)))
-    | inr there ↦ (there.1, sym (step.other_from i there.0) ∙ e)
-  ];
-  proposal_sources = λ q ql o e. (sym (step.reached q) ∙ o, sym (step.proposal_from q) ∙ e);
-}
-
 -- One proposal more.
 
 -- what is asked of the way by which a proposal is reached
@@ -232,105 +205,257 @@ tree-proposal g t u p from h step pl new way =
       ];
     }
 
-pub goes_on-proposal : (g : Residual) (t u : Tree) (p r : ℕ) → ReachesProposal t u p (Some r) → p < g.side → t.reached p ≡ false → GoesTo g t p r → GoesOn g t u
-goes_on-proposal g t u p r step pl new way = record {
-  reviewers = λ i il o. omega (arith, o, step.order i);
-  proposals = λ q ql o. step.other_reached q (other_proposal t p q new o) ∙ o;
-  least_reviewers = λ a b closed ra pb i il o. ra i il (sym (ap (ltb 0) (step.order i)) ∙ o);
-  least_proposals = λ a b closed ra pb q ql o. elim (which_proposal t u p q (Some r) step o) [
-    | inl here ↦ ap b here ∙ closed.forward r p way.below pl (ra r way.below (lt-ltb 0 (t.order r) way.reached)) way.free way.held
-    | inr there ↦ pb q ql there.1
+-- The order of a reviewer says whether it is reached.
+
+pub order-unreached : (reached : Bool) (before : ℕ) → reached ≡ false → cond reached (before + 1) 0 ≡ 0
+order-unreached reached before h = ap (λ b. cond b (before + 1) 0) h
+
+pub reached-same : (reached : Bool) (before : ℕ) → ltb 0 (cond reached (before + 1) 0) ≡ reached
+reached-same true before = lt-ltb 0 (before + 1) (omega arith)
+reached-same false before = refl
+
+-- What a search has reached, and one step more.
+
+pub sought-reviewer : (g : Residual) (a b room : Places) (t u : Tree) (r : ℕ) (from : Option ℕ) → IsSought g a b room t → ReachesReviewer t u r from → r < g.side → t.order r ≡ 0
+    → (from ≡ None → a r ≡ true) → ((p : ℕ) → from ≡ Some p → ComesFrom g t r p) → IsSought g a b room u
+sought-reviewer g a b room t u r from h step rl new source way = record {
+  grown = tree-reviewer g t u r from h.grown step rl new way;
+  reviewer_sources = λ i il o e. elim (which_reviewer t u r i from step o) [
+    | inl here ↦ ap a here ∙ source (sym step.here_from ∙ (ap u.reviewer_from (sym here) ∙ e))
+    | inr there ↦ h.reviewer_sources i il there.1 (sym (step.other_from i there.0) ∙ e)
   ];
-  reviewer_sources = λ i il o e. (omega (arith, step.order i), sym (step.reviewer_from i) ∙ e);
-  proposal_sources = λ q ql o e. elim (which_proposal t u p q (Some r) step o) [
-    | inl here ↦ absurd (none_some r (sym step.here_from ∙ (ap u.proposal_from (sym here) ∙ e)))
-    | inr there ↦ (there.1, sym (step.other_from q there.0) ∙ e)
+  proposal_sources = λ q ql o e. h.proposal_sources q ql (sym (step.reached q) ∙ o) (sym (step.proposal_from q) ∙ e);
+  least_reviewers = λ x y closed ra pb i il o. elim (which_reviewer t u r i from step (ltb-true 0 (u.order i) o)) [
+    | inl here ↦ ap x here ∙ elim (cases_Option from) [
+      | inl none ↦ ra r rl (source none)
+      | inr some ↦
+          let w = way some.0 some.1 in
+          closed.back r some.0 rl w.below (h.least_proposals x y closed ra pb some.0 w.below w.reached) w.free w.held
+    ]
+    | inr there ↦ h.least_reviewers x y closed ra pb i il (lt-ltb 0 (t.order i) there.1)
+  ];
+  least_proposals = λ x y closed ra pb q ql o. h.least_proposals x y closed ra pb q ql (sym (step.reached q) ∙ o);
+  full = λ q ql o. h.full q ql (sym (step.reached q) ∙ o);
+}
+
+pub sought-proposal : (g : Residual) (a b room : Places) (t u : Tree) (p : ℕ) (from : Option ℕ) → IsSought g a b room t → ReachesProposal t u p from → p < g.side → t.reached p ≡ false → room p ≡ false
+    → (from ≡ None → b p ≡ true) → ((r : ℕ) → from ≡ Some r → GoesTo g t p r) → IsSought g a b room u
+sought-proposal g a b room t u p from h step pl new none source way = record {
+  grown = tree-proposal g t u p from h.grown step pl new way;
+  reviewer_sources = λ i il o e. h.reviewer_sources i il (omega (arith, step.order i)) (sym (step.reviewer_from i) ∙ e);
+  proposal_sources = λ q ql o e. elim (which_proposal t u p q from step o) [
+    | inl here ↦ ap b here ∙ source (sym step.here_from ∙ (ap u.proposal_from (sym here) ∙ e))
+    | inr there ↦ h.proposal_sources q ql there.1 (sym (step.other_from q there.0) ∙ e)
+  ];
+  least_reviewers = λ x y closed ra pb i il o. h.least_reviewers x y closed ra pb i il (sym (ap (ltb 0) (step.order i)) ∙ o);
+  least_proposals = λ x y closed ra pb q ql o. elim (which_proposal t u p q from step o) [
+    | inl here ↦ ap y here ∙ elim (cases_Option from) [
+      | inl none ↦ pb p pl (source none)
+      | inr some ↦
+          let w = way some.0 some.1 in
+          closed.forward some.0 p w.below pl (h.least_reviewers x y closed ra pb some.0 w.below (lt-ltb 0 (t.order some.0) w.reached)) w.free w.held
+    ]
+    | inr there ↦ h.least_proposals x y closed ra pb q ql there.1
+  ];
+  full = λ q ql o. elim (which_proposal t u p q from step o) [
+    | inl here ↦ ap room here ∙ none
+    | inr there ↦ h.full q ql there.1
   ];
 }
 
--- What the tests of a search say.
+-- what is reached while no proposal with room is comes by proposals without room
+pub sought-grown : (g : Residual) (a b room : Places) (t : Tree) → IsSought g a b room t → IsGrown g a b room t
+sought-grown g a b room t h = record {
+  grown = h.grown;
+  reviewer_sources = h.reviewer_sources;
+  proposal_sources = h.proposal_sources;
+  by_full = λ r p l o e. h.full p (h.grown.reviewer_below r p l o e) (h.grown.reviewer_after r p l o e);
+}
 
-pub next_reviewer-parts : (order : ℕ) (held free : Bool) → (eqb order 0 && (held && free)) ≡ true → (order ≡ 0) × (held ≡ true) × (free ≡ true)
-next_reviewer-parts order held free h =
-    let both = and_parts (eqb order 0) (held && free) h in
-    let pair = and_parts held free both.1 in
-    (eqb-true order 0 both.0, pair.0, pair.1)
+-- and so it does where a proposal with room is reached last
+pub found-grown : (g : Residual) (a b room : Places) (t u : Tree) (p r : ℕ) → IsSought g a b room t → ReachesProposal t u p (Some r) → p < g.side → room p ≡ true → GoesTo g t p r → IsGrown g a b room u
+found-grown g a b room t u p r h step pl some way =
+    let new : t.reached p ≡ false = false_from_ne_true (t.reached p) (λ e. both_ways (room p) (h.full p pl e) some) in
+    let before = sought-grown g a b room t h in
+    record {
+      grown = tree-proposal g t u p (Some r) h.grown step pl new (λ q e. let same : r ≡ q = cc in subst (GoesTo g t p) same way);
+      reviewer_sources = λ i il o e. h.reviewer_sources i il (omega (arith, step.order i)) (sym (step.reviewer_from i) ∙ e);
+      proposal_sources = λ q ql o e. elim (which_proposal t u p q (Some r) step o) [
+        | inl here ↦ absurd (none_some r (sym step.here_from ∙ (ap u.proposal_from (sym here) ∙ e)))
+        | inr there ↦ h.proposal_sources q ql there.1 (sym (step.other_from q there.0) ∙ e)
+      ];
+      by_full = λ i q il o e. before.by_full i q il (omega (arith, step.order i)) (sym (step.reviewer_from i) ∙ e);
+    }
 
-pub next_reviewer-not : (order : ℕ) (held free : Bool) → (eqb order 0 && (held && free)) ≡ false → held ≡ true → free ≡ true → 0 < order
-next_reviewer-not order held free h f e = elim (cases_eq order 0) [
-  | inl none ↦ absurd (both_ways (eqb order 0 && (held && free)) h (and_from (eqb order 0) (held && free) (eq-eqb order 0 none) (and_from held free f e)))
-  | inr some ↦ omega arith
+-- the same from more sources
+pub grown-wider : (g : Residual) (a b room c : Places) (t : Tree) → IsGrown g a b room t → ((r : ℕ) → r < g.side → a r ≡ true → c r ≡ true) → IsGrown g c b room t
+grown-wider g a b room c t h wider = record {
+  grown = h.grown;
+  reviewer_sources = λ r l o e. wider r l (h.reviewer_sources r l o e);
+  proposal_sources = h.proposal_sources;
+  by_full = h.by_full;
+}
+
+-- A search is under way.
+
+pub under_way-none : (g : Residual) (a b room : Places) (near_r near_p : Places) (t : Tree) → t.count ≡ 0 → ((r : ℕ) → t.order r ≡ 0) → ((p : ℕ) → t.reached p ≡ false)
+    → ((r : ℕ) → r < g.side → near_r r ≡ a r) → ((p : ℕ) → p < g.side → near_p p ≡ b p) → ((p : ℕ) → p < g.side → b p ≡ true → room p ≡ false)
+    → IsUnderWay g a b room near_r near_p t
+under_way-none g a b room near_r near_p t count reviewers proposals rs ps none =
+    let no_reviewer : (r : ℕ) → 0 < t.order r → ⊥ = λ r o. omega (arith, reviewers r) in
+    let no_proposal : (p : ℕ) → t.reached p ≡ true → ⊥ = λ p o. both_ways (t.reached p) (proposals p) o in
+    record {
+      sought = record {
+        grown = tree-none g t count (λ r l. reviewers r) (λ p l. proposals p);
+        reviewer_sources = λ r l o e. absurd (no_reviewer r o);
+        proposal_sources = λ p l o e. absurd (no_proposal p o);
+        least_reviewers = λ x y closed ra pb r l o. absurd (no_reviewer r (ltb-true 0 (t.order r) o));
+        least_proposals = λ x y closed ra pb p l o. absurd (no_proposal p o);
+        full = λ p l o. absurd (no_proposal p o);
+      };
+      has_reviewers = λ r l o. rs r l ∙ o;
+      has_proposals = λ p l o. ps p l ∙ o;
+      forward = λ r p l k o f e. absurd (no_reviewer r o);
+      back = λ r p l k o f e. absurd (no_proposal p o);
+      other_reviewers = λ r l o none. sym (rs r l) ∙ o;
+      other_proposals = λ p l o none. sym (ps p l) ∙ o;
+      near_full = λ p l o. none p l (sym (ps p l) ∙ o);
+    }
+
+or_left : (a b : Bool) → a ≡ true → (a || b) ≡ true
+or_left a b h = ap (λ c. c || b) h
+
+or_right : (a b : Bool) → b ≡ true → (a || b) ≡ true
+or_right true b h = refl
+or_right false b h = h
+
+-- where a reviewer came from: a proposal that is reached and that it holds by a free pair, if there is one
+pub record ReviewerCame (g : Residual) (t : Tree) (r : ℕ) (from : Option ℕ) : Type 0 where
+  pub none : from ≡ None → (p : ℕ) → p < g.side → t.reached p ≡ true → g.free r p ≡ true → g.held r p ≡ true → ⊥
+  pub some : (p : ℕ) → from ≡ Some p → ComesFrom g t r p
+
+pub record ProposalCame (g : Residual) (t : Tree) (p : ℕ) (from : Option ℕ) : Type 0 where
+  pub none : from ≡ None → (r : ℕ) → r < g.side → 0 < t.order r → g.free r p ≡ true → g.held r p ≡ false → ⊥
+  pub some : (r : ℕ) → from ≡ Some r → GoesTo g t p r
+
+-- a reviewer that is near is reached
+pub reviewer-sought : (g : Residual) (a b room near_r near_p : Places) (t u : Tree) (r : ℕ) (from : Option ℕ) → IsUnderWay g a b room near_r near_p t → ReachesReviewer t u r from → r < g.side → t.order r ≡ 0
+    → near_r r ≡ true → ReviewerCame g t r from → IsSought g a b room u
+reviewer-sought g a b room near_r near_p t u r from h step rl new near came =
+    sought-reviewer g a b room t u r from h.sought step rl new (λ none. h.other_reviewers r rl near (came.none none)) came.some
+
+-- and none of the proposals behind it has room
+pub under_way-reviewer : (g : Residual) (a b room near_r near_p ahead more_p : Places) (t u : Tree) (r : ℕ) (from : Option ℕ) → IsUnderWay g a b room near_r near_p t → ReachesReviewer t u r from → r < g.side → t.order r ≡ 0
+    → near_r r ≡ true → ReviewerCame g t r from → ((p : ℕ) → p < g.side → ahead p ≡ (g.free r p && not (g.held r p))) → ((p : ℕ) → more_p p ≡ (near_p p || ahead p))
+    → ((p : ℕ) → ahead p ≡ true → room p ≡ false) → IsUnderWay g a b room near_r more_p u
+under_way-reviewer g a b room near_r near_p ahead more_p t u r from h step rl new near came ways more no_room = record {
+  sought = reviewer-sought g a b room near_r near_p t u r from h step rl new near came;
+  has_reviewers = h.has_reviewers;
+  has_proposals = λ p l o. more p ∙ or_left (near_p p) (ahead p) (h.has_proposals p l o);
+  forward = λ i p il pl o f e. elim (which_reviewer t u r i from step o) [
+    | inl here ↦
+        more p
+        ∙ or_right (near_p p) (ahead p)
+        (ways p pl ∙ and_from (g.free r p) (not (g.held r p)) (ap (λ k. g.free k p) (sym here) ∙ f) (ap not (ap (λ k. g.held k p) (sym here) ∙ e)))
+    | inr there ↦ more p ∙ or_left (near_p p) (ahead p) (h.forward i p il pl there.1 f e)
+  ];
+  back = λ i p il pl o f e. h.back i p il pl (sym (step.reached p) ∙ o) f e;
+  other_reviewers = λ i il o none. h.other_reviewers i il o (λ p pl e f k. none p pl (step.reached p ∙ e) f k);
+  other_proposals = λ p pl o none. elim (or_cases (near_p p) (ahead p) (sym (more p) ∙ o)) [
+    | inl old ↦ h.other_proposals p pl old (λ i il e f k. none i il (omega (arith, e, step.other_order i (other_reviewer t r i new e))) f k)
+    | inr here ↦
+        let parts = and_parts (g.free r p) (not (g.held r p)) (sym (ways p pl) ∙ here) in
+        absurd (none r rl (omega (arith, step.order)) parts.0 (not-true (g.held r p) parts.1))
+  ];
+  near_full = λ p pl o. elim (or_cases (near_p p) (ahead p) (sym (more p) ∙ o)) [
+    | inl old ↦ h.near_full p pl old
+    | inr here ↦ no_room p here
+  ];
+}
+
+-- a proposal that is near is reached
+pub under_way-proposal : (g : Residual) (a b room near_r near_p behind more_r : Places) (t u : Tree) (p : ℕ) (from : Option ℕ) → IsUnderWay g a b room near_r near_p t → ReachesProposal t u p from → p < g.side → t.reached p ≡ false
+    → near_p p ≡ true → ProposalCame g t p from → ((r : ℕ) → r < g.side → behind r ≡ (g.free r p && g.held r p)) → ((r : ℕ) → more_r r ≡ (near_r r || behind r))
+    → IsUnderWay g a b room more_r near_p u
+under_way-proposal g a b room near_r near_p behind more_r t u p from h step pl new near came ways more = record {
+  sought = sought-proposal g a b room t u p from h.sought step pl new (h.near_full p pl near) (λ none. h.other_proposals p pl near (came.none none)) came.some;
+  has_reviewers = λ r l o. more r ∙ or_left (near_r r) (behind r) (h.has_reviewers r l o);
+  has_proposals = h.has_proposals;
+  forward = λ i q il ql o f e. h.forward i q il ql (omega (arith, step.order i, o)) f e;
+  back = λ i q il ql o f e. elim (which_proposal t u p q from step o) [
+    | inl here ↦
+        more i
+        ∙ or_right (near_r i) (behind i)
+        (ways i il ∙ and_from (g.free i p) (g.held i p) (ap (g.free i) (sym here) ∙ f) (ap (g.held i) (sym here) ∙ e))
+    | inr there ↦ more i ∙ or_left (near_r i) (behind i) (h.back i q il ql there.1 f e)
+  ];
+  other_reviewers = λ i il o none. elim (or_cases (near_r i) (behind i) (sym (more i) ∙ o)) [
+    | inl old ↦ h.other_reviewers i il old (λ q ql e f k. none q ql (step.other_reached q (other_proposal t p q new e) ∙ e) f k)
+    | inr here ↦
+        let parts = and_parts (g.free i p) (g.held i p) (sym (ways i il) ∙ here) in
+        absurd (none p pl step.reached parts.0 parts.1)
+  ];
+  other_proposals = λ q ql o none. h.other_proposals q ql o (λ i il e f k. none i il (omega (arith, step.order i, e)) f k);
+  near_full = h.near_full;
+}
+
+-- where all that is near is reached, the search has gone on as far as it can
+pub under_way-ends : (g : Residual) (a b room near_r near_p : Places) (t : Tree) → IsUnderWay g a b room near_r near_p t → ((r : ℕ) → near_r r ≡ true → reviewers_of t r ≡ true) → ((p : ℕ) → near_p p ≡ true → t.reached p ≡ true)
+    → HasReached g a b t
+under_way-ends g a b room near_r near_p t h reviewers proposals = record {
+  closed = record {
+    forward = λ r p l k o f e. proposals p (h.forward r p l k (ltb-true 0 (t.order r) o) f e);
+    back = λ r p l k o f e. reviewers r (h.back r p l k o f e);
+  };
+  has_reviewers = λ r l o. reviewers r (h.has_reviewers r l o);
+  has_proposals = λ p l o. proposals p (h.has_proposals p l o);
+  least_reviewers = h.sought.least_reviewers;
+  least_proposals = h.sought.least_proposals;
+}
+
+-- Where a place that is found came from.
+
+pub within : (n i : ℕ) (ways other : Places) → ((k : ℕ) → n ≤ k → ways k ≡ false) → (ways i && other i) ≡ true → i < n
+within n i ways other outside h = elim (cases_lt i n) [
+  | inl below ↦ below
+  | inr past ↦ absurd (both_ways (ways i) (outside i past) (and_parts (ways i) (other i) h).0)
 ]
 
-pub next_proposal-parts : (reached free held : Bool) → (not reached && (free && not held)) ≡ true → (reached ≡ false) × (free ≡ true) × (held ≡ false)
-next_proposal-parts reached free held h =
-    let both = and_parts (not reached) (free && not held) h in
-    let pair = and_parts free (not held) both.1 in
-    (not-true reached both.0, pair.0, not-true held pair.1)
-
-pub next_proposal-not : (reached free held : Bool) → (not reached && (free && not held)) ≡ false → free ≡ true → held ≡ false → reached ≡ true
-next_proposal-not true free held h f e = refl
-next_proposal-not false free held h f e = absurd (both_ways (free && not held) h (and_from free (not held) f (ap not e)))
-
--- A search starts anew: nothing is reached, then the first reviewers that are sources, then all.
-
-pub record StartsFrom (n done : ℕ) (reviewers : Places) (t : Tree) : Type 0 where
-  pub has_reviewers : IsWithin done reviewers (reviewers_of t)
-  pub no_more_reviewers : IsWithin done (reviewers_of t) reviewers
-  pub later : (r : ℕ) → r < n → done ≤ r → t.order r ≡ 0
-  pub proposals : (p : ℕ) → p < n → t.reached p ≡ false
-
-pub starts-none : (n : ℕ) (reviewers : Places) (t : Tree) → ((r : ℕ) → r < n → t.order r ≡ 0) → ((p : ℕ) → p < n → t.reached p ≡ false) → StartsFrom n 0 reviewers t
-starts-none n reviewers t r p = record {
-  has_reviewers = λ i l. absurd (omega arith);
-  no_more_reviewers = λ i l. absurd (omega arith);
-  later = λ i l b. r i l;
-  proposals = p;
+pub came-reviewer : (g : Residual) (t : Tree) (r : ℕ) (from : Option ℕ) (held both : Places) → ((p : ℕ) → p < g.side → held p ≡ (g.free r p && g.held r p)) → ((p : ℕ) → g.side ≤ p → held p ≡ false)
+    → ((p : ℕ) → both p ≡ (held p && t.reached p)) → IfSome from (λ p. both p ≡ true) → IfNone from ((p : ℕ) → 0 ≤ p → both p ≡ false) → ReviewerCame g t r from
+came-reviewer g t r None held both ways outside each some none = record {
+  none = λ e p pl o f k. both_ways (both p) (none p (omega arith)) (each p ∙ and_from (held p) (t.reached p) (ways p pl ∙ and_from (g.free r p) (g.held r p) f k) o);
+  some = λ p e. absurd (none_some p (sym e));
 }
+came-reviewer g t r (Some q) held both ways outside each some none =
+    let here = sym (each q) ∙ some in
+    let below = within g.side q held t.reached outside here in
+    let parts = and_parts (held q) (t.reached q) here in
+    let pair = and_parts (g.free r q) (g.held r q) (sym (ways q below) ∙ parts.0) in
+    let way : ComesFrom g t r q = record { below = below; reached = parts.1; free = pair.0; held = pair.1 } in
+    record {
+      none = λ e. absurd (none_some q e);
+      some = λ p e. let same : q ≡ p = cc in subst (ComesFrom g t r) same way;
+    }
 
-pub starts-source : (n r : ℕ) (reviewers : Places) (t u : Tree) → StartsFrom n r reviewers t → ReachesReviewer t u r None → reviewers r ≡ true → StartsFrom n (r + 1) reviewers u
-starts-source n r reviewers t u s step source = record {
-  has_reviewers = λ i l o. elim (cases_eq i r) [
-    | inl same ↦ lt-ltb 0 (u.order i) (omega (arith, ap u.order same, step.order))
-    | inr other ↦ ap (ltb 0) (step.other_order i other) ∙ s.has_reviewers i (omega arith) o
-  ];
-  no_more_reviewers = λ i l o. elim (cases_eq i r) [
-    | inl same ↦ ap reviewers same ∙ source
-    | inr other ↦ s.no_more_reviewers i (omega arith) (sym (ap (ltb 0) (step.other_order i other)) ∙ o)
-  ];
-  later = λ i l b. step.other_order i (λ e. omega arith) ∙ s.later i l (omega arith);
-  proposals = λ p l. step.reached p ∙ s.proposals p l;
+pub came-proposal : (g : Residual) (t : Tree) (p : ℕ) (from : Option ℕ) (openers both : Places) → ((r : ℕ) → r < g.side → openers r ≡ (g.free r p && not (g.held r p))) → ((r : ℕ) → g.side ≤ r → openers r ≡ false)
+    → ((r : ℕ) → both r ≡ (openers r && reviewers_of t r)) → IfSome from (λ r. both r ≡ true) → IfNone from ((r : ℕ) → 0 ≤ r → both r ≡ false) → ProposalCame g t p from
+came-proposal g t p None openers both ways outside each some none = record {
+  none = λ e r rl o f k. both_ways (both r) (none r (omega arith))
+      (each r ∙ and_from (openers r) (reviewers_of t r) (ways r rl ∙ and_from (g.free r p) (not (g.held r p)) f (ap not k)) (lt-ltb 0 (t.order r) o));
+  some = λ r e. absurd (none_some r (sym e));
 }
+came-proposal g t p (Some q) openers both ways outside each some none =
+    let here = sym (each q) ∙ some in
+    let below = within g.side q openers (reviewers_of t) outside here in
+    let parts = and_parts (openers q) (reviewers_of t q) here in
+    let pair = and_parts (g.free q p) (not (g.held q p)) (sym (ways q below) ∙ parts.0) in
+    let way : GoesTo g t p q = record { below = below; reached = ltb-true 0 (t.order q) parts.1; free = pair.0; held = not-true (g.held q p) pair.1 } in
+    record {
+      none = λ e. absurd (none_some q e);
+      some = λ r e. let same : q ≡ r = cc in subst (GoesTo g t p) same way;
+    }
 
-pub starts-other : (n r : ℕ) (reviewers : Places) (t : Tree) → StartsFrom n r reviewers t → r < n → reviewers r ≡ false → StartsFrom n (r + 1) reviewers t
-starts-other n r reviewers t s below none = record {
-  has_reviewers = λ i l o. elim (cases_eq i r) [
-    | inl same ↦ absurd (both_ways (reviewers i) (ap reviewers same ∙ none) o)
-    | inr other ↦ s.has_reviewers i (omega arith) o
-  ];
-  no_more_reviewers = λ i l o. elim (cases_eq i r) [
-    | inl same ↦ absurd (both_ways (reviewers_of t i) (ap (reviewers_of t) same ∙ le-ltb 0 (t.order r) (omega (arith, s.later r below (omega arith)))) o)
-    | inr other ↦ s.no_more_reviewers i (omega arith) o
-  ];
-  later = λ i l b. s.later i l (omega arith);
-  proposals = s.proposals;
-}
-
--- Where a search comes from.
-
--- the reviewers that are reached come from proposals without room, and the new one does
-pub by-full-more : (t u : Tree) (r p n : ℕ) (spare : List ℕ) → ComeByFull n spare t → ReachesReviewer t u r (Some p) → slice_index spare p ≡ 0 → ComeByFull n spare u
-by-full-more t u r p n spare h step full i q l o e = elim (which_reviewer t u r i (Some p) step o) [
-  | inl here ↦ ap (slice_index spare) (let same : q ≡ p = same_place p q (sym step.here_from ∙ (ap u.reviewer_from (sym here) ∙ e)) in same) ∙ full
-  | inr there ↦ h i q l there.1 (sym (step.other_from i there.0) ∙ e)
-]
-  where
-    same_place : (a b : ℕ) → Some a ≡ Some b → b ≡ a
-    same_place a b w = cc
-
--- a new source comes from nowhere
-pub source-alone : (t u : Tree) (r i p : ℕ) → ReachesReviewer t u r None → 0 < u.order i → (0 < t.order i → t.reviewer_from i ≡ Some p → ⊥) → u.reviewer_from i ≡ Some p → ⊥
-source-alone t u r i p step o before e = elim (which_reviewer t u r i None step o) [
-  | inl here ↦ none_some p (sym e ∙ (ap u.reviewer_from here ∙ step.here_from))
-  | inr there ↦ before there.1 (sym (step.other_from i there.0) ∙ e)
-]
+pub or_none : (b : Bool) → (b || false) ≡ b
+or_none true = refl
+or_none false = refl

@@ -1,8 +1,11 @@
 pub mod ClosedSet
 pub mod Draft
 pub mod Flow
+pub mod Places
 pub mod Reroute
 pub mod Residual
 pub mod Search
+pub mod Served
 pub mod Solved
 pub mod Started
+pub mod Ways

@@ -1,12 +1,10 @@
-use Rattle.std.specs.Prelude.{◌≡◌, ◌≢◌, ℕ, ◌+◌, ◌<◌, ◌≤◌, Bool, true, false, nat_lt, ◌==◌, if◌then◌else◌}
-use Rattle.std.specs.Prelude.{Option, None, Some, List, slice_index, slice_index_or}
+use Rattle.std.specs.Prelude.{◌≡◌, ◌≢◌, ℕ, ◌+◌, ◌<◌, ◌≤◌, true, false, nat_lt, ◌==◌, if◌then◌else◌}
+use Rattle.std.specs.Prelude.{Option, None, Some, List, slice_index}
 use Rattle.std.specs.Option.{option_map_or}
 use Rattle.house_base.specs.Grid.{Square, cell}
 use Rattle.house_model.specs.Counting.{count_below}
 use Rattle.house_model.specs.Profile.{Pairs}
 use Rattle.house_model.specs.Shortage.{Places, IsWithin}
-use Rattle.assign_flow.specs.declared.search.ReviewerMark.{ReviewerMark}
-use Rattle.assign_flow.specs.declared.search.ProposalMark.{ProposalMark}
 use Rattle.assign_flow.specs.declared.walk.End.{End}
 use Rattle.assign_flow.specs.declared.walk.End.TheVariants.{AtReviewer, AtProposal}
 
@@ -46,21 +44,6 @@ pub record Tree : Type 0 where
   pub reached : Places
   pub proposal_from : ℕ → Option ℕ
 
-abbrev pub reviewer_mark : List ReviewerMark → ℕ → ReviewerMark
-reviewer_mark marks r = slice_index_or marks r (record { order = 0; from = None })
-
-abbrev pub proposal_mark : List ProposalMark → ℕ → ProposalMark
-proposal_mark marks p = slice_index_or marks p (record { reached = false; from = None })
-
-abbrev pub tree : ℕ → List ReviewerMark → List ProposalMark → Tree
-tree count reviewers proposals = record {
-  count = count;
-  order = λ r. (reviewer_mark reviewers r).order;
-  reviewer_from = λ r. (reviewer_mark reviewers r).from;
-  reached = λ p. (proposal_mark proposals p).reached;
-  proposal_from = λ p. (proposal_mark proposals p).from;
-}
-
 -- the reviewers that are reached
 abbrev pub reviewers_of : Tree → Places
 reviewers_of t r = nat_lt 0 (t.order r)
@@ -82,22 +65,6 @@ pub record IsTree (g : Residual) (t : Tree) : Type 0 where
   pub proposal_after : (p r : ℕ) → p < g.side → t.reached p ≡ true → t.proposal_from p ≡ Some r → 0 < t.order r
   pub proposal_free : (p r : ℕ) → p < g.side → t.reached p ≡ true → t.proposal_from p ≡ Some r → g.free r p ≡ true
   pub proposal_open : (p r : ℕ) → p < g.side → t.reached p ≡ true → t.proposal_from p ≡ Some r → g.held r p ≡ false
-
--- A search goes on: what was reached stays so, nothing is reached that some closed set with all that was reached
--- leaves out, and there are no new sources.
-pub record GoesOn (g : Residual) (old new : Tree) : Type 0 where
-  pub reviewers : (r : ℕ) → r < g.side → 0 < old.order r → 0 < new.order r
-  pub proposals : (p : ℕ) → p < g.side → old.reached p ≡ true → new.reached p ≡ true
-  pub least_reviewers : (a b : Places) → IsClosed g a b → IsWithin g.side (reviewers_of old) a
-      → IsWithin g.side old.reached b
-      → IsWithin g.side (reviewers_of new) a
-  pub least_proposals : (a b : Places) → IsClosed g a b → IsWithin g.side (reviewers_of old) a
-      → IsWithin g.side old.reached b
-      → IsWithin g.side new.reached b
-  pub reviewer_sources : (r : ℕ) → r < g.side → 0 < new.order r → new.reviewer_from r ≡ None
-      → (0 < old.order r) × (old.reviewer_from r ≡ None)
-  pub proposal_sources : (p : ℕ) → p < g.side → new.reached p ≡ true → new.proposal_from p ≡ None
-      → (old.reached p ≡ true) × (old.proposal_from p ≡ None)
 
 -- one reviewer more is reached
 pub record ReachesReviewer (old new : Tree) (reviewer : ℕ) (from : Option ℕ) : Type 0 where
@@ -180,20 +147,13 @@ pub record WalksBack (n : ℕ) (t : Tree) (old new : Pairs) (proposal : ℕ) (en
   pub proposals : (p : ℕ) → p < n
       → count_below (λ r. new r p) n + proposal_loss end p ≡ count_below (λ r. old r p) n + at_one p proposal
 
--- a search starts with just these reviewers and proposals
-pub record StartsAt (n : ℕ) (reviewers proposals : Places) (t : Tree) : Type 0 where
-  pub has_reviewers : IsWithin n reviewers (reviewers_of t)
-  pub has_proposals : IsWithin n proposals t.reached
-  pub no_more_reviewers : IsWithin n (reviewers_of t) reviewers
-  pub no_more_proposals : IsWithin n t.reached proposals
-
 -- What a search from some sources has reached so far: along ways of the graph, from no other source, and by no proposal
 -- that has room.
-pub record IsGrown (g : Residual) (reviewers proposals : Places) (spare : List ℕ) (t : Tree) : Type 0 where
+pub record IsGrown (g : Residual) (reviewers proposals room : Places) (t : Tree) : Type 0 where
   pub grown : IsTree g t
   pub reviewer_sources : (r : ℕ) → r < g.side → 0 < t.order r → t.reviewer_from r ≡ None → reviewers r ≡ true
   pub proposal_sources : (p : ℕ) → p < g.side → t.reached p ≡ true → t.proposal_from p ≡ None → proposals p ≡ true
-  pub by_full : (r p : ℕ) → r < g.side → 0 < t.order r → t.reviewer_from r ≡ Some p → slice_index spare p ≡ 0
+  pub by_full : (r p : ℕ) → r < g.side → 0 < t.order r → t.reviewer_from r ≡ Some p → room p ≡ false
 
 -- A search has gone on from its sources as far as it can: what it has reached is closed, and within each closed set
 -- that has the sources.
@@ -207,23 +167,37 @@ pub record HasReached (g : Residual) (reviewers proposals : Places) (t : Tree) :
       → IsWithin g.side t.reached b
 
 -- no proposal that is reached has room
-abbrev pub IsFull : ℕ → List ℕ → Tree → Type 0
-IsFull n spare t = (p : ℕ) → p < n → t.reached p ≡ true → slice_index spare p ≡ 0
+abbrev pub IsFull : ℕ → Places → Tree → Type 0
+IsFull n room t = (p : ℕ) → p < n → t.reached p ≡ true → room p ≡ false
 
 -- a proposal is reached and has room
-abbrev pub HasRoom : ℕ → List ℕ → Tree → ℕ → Type 0
-HasRoom n spare t p = (p < n) × (t.reached p ≡ true) × (0 < slice_index spare p)
+abbrev pub HasRoom : ℕ → Places → Tree → ℕ → Type 0
+HasRoom n room t p = (p < n) × (t.reached p ≡ true) × (room p ≡ true)
 
--- the reviewers come from proposals without room
-abbrev pub ComeByFull : ℕ → List ℕ → Tree → Type 0
-ComeByFull n spare t = (r p : ℕ) → r < n → 0 < t.order r → t.reviewer_from r ≡ Some p → slice_index spare p ≡ 0
+-- What a search from some sources has reached while no proposal with room is: along ways of the graph, from no other
+-- source, and within each closed set that has the sources.
+pub record IsSought (g : Residual) (reviewers proposals room : Places) (t : Tree) : Type 0 where
+  pub grown : IsTree g t
+  pub reviewer_sources : (r : ℕ) → r < g.side → 0 < t.order r → t.reviewer_from r ≡ None → reviewers r ≡ true
+  pub proposal_sources : (p : ℕ) → p < g.side → t.reached p ≡ true → t.proposal_from p ≡ None → proposals p ≡ true
+  pub least_reviewers : (a b : Places) → IsClosed g a b → IsWithin g.side reviewers a → IsWithin g.side proposals b
+      → IsWithin g.side (reviewers_of t) a
+  pub least_proposals : (a b : Places) → IsClosed g a b → IsWithin g.side reviewers a → IsWithin g.side proposals b
+      → IsWithin g.side t.reached b
+  pub full : IsFull g.side room t
 
--- all ways out of the reviewers that are marked lead to what is reached
-abbrev pub AreLeft : Residual → List Bool → Tree → Type 0
-AreLeft g marks t = (r p : ℕ) → r < g.side → p < g.side → slice_index_or marks r false ≡ true → g.free r p ≡ true
-    → g.held r p ≡ false → t.reached p ≡ true
-
--- all ways out of the proposals that are marked lead to what is reached
-abbrev pub AreGivenUp : Residual → List Bool → Tree → Type 0
-AreGivenUp g marks t = (r p : ℕ) → r < g.side → p < g.side → slice_index_or marks p false ≡ true
-    → g.free r p ≡ true → g.held r p ≡ true → 0 < t.order r
+-- A search is under way. Near are its sources, and what the ways out of what is reached lead to.
+pub record IsUnderWay (g : Residual) (reviewers proposals room near_reviewers near_proposals : Places) (t : Tree)
+    : Type 0 where
+  pub sought : IsSought g reviewers proposals room t
+  pub has_reviewers : IsWithin g.side reviewers near_reviewers
+  pub has_proposals : IsWithin g.side proposals near_proposals
+  pub forward : (r p : ℕ) → r < g.side → p < g.side → 0 < t.order r → g.free r p ≡ true → g.held r p ≡ false
+      → near_proposals p ≡ true
+  pub back : (r p : ℕ) → r < g.side → p < g.side → t.reached p ≡ true → g.free r p ≡ true → g.held r p ≡ true
+      → near_reviewers r ≡ true
+  pub other_reviewers : (r : ℕ) → r < g.side → near_reviewers r ≡ true
+      → ((p : ℕ) → p < g.side → t.reached p ≡ true → g.free r p ≡ true → g.held r p ≡ true → ⊥) → reviewers r ≡ true
+  pub other_proposals : (p : ℕ) → p < g.side → near_proposals p ≡ true
+      → ((r : ℕ) → r < g.side → 0 < t.order r → g.free r p ≡ true → g.held r p ≡ false → ⊥) → proposals p ≡ true
+  pub near_full : (p : ℕ) → p < g.side → near_proposals p ≡ true → room p ≡ false

@@ -10,8 +10,8 @@ ghost use Rattle.cut_gap.specs.Cut.{marked, demand_of};
 use crate::closed::Closed;
 use crate::reroute::hold;
 use crate::search::Search;
-use crate::solving::{Solved, solve};
-use crate::squares::copied;
+use crate::serving::{Served, serve_all};
+use crate::ways::Ways;
 use cut_gap::Cut;
 use house_base::{Grid, Memory};
 use std::alloc::Global;
@@ -23,12 +23,9 @@ pub struct Flow {
     need: Vec<u32>,
     room: Vec<u32>,
     may: Grid,
-    held: Grid,
-    /// The pairs that may be and are not settled.
-    free: Grid,
+    /// The ways among the pairs that may be and are not settled.
+    ways: Ways,
     search: Search,
-    /// Room for the search: the proposals that the reviewer at hand can give up.
-    spare: Vec<u32>,
     /// What is known to have no way out: a pair from it to another reviewer cannot be held any more.
     closed: Closed,
 }
@@ -40,7 +37,7 @@ impl Model for Flow {
     ghost use Rattle.cut_gap.specs.Cut.{demand_of};
     ghost use Rattle.assign_flow.specs.ClosedSet.{HasNoWayOut};
     ghost use Rattle.assign_flow.specs.Flow.{FlowParts};
-    ghost use Rattle.assign_flow.specs.Residual.{residual};
+    ghost use Rattle.assign_flow.specs.Ways.{graph_of};
 
     ghost Value = { FlowParts };
 
@@ -48,15 +45,14 @@ impl Model for Flow {
       needs = f.need.items;
       rooms = f.room.items;
       may = f.may;
-      held = f.held;
-      free = f.free;
+      held = f.ways.held;
+      free = f.ways.free;
     } };
 
-    ghost invariant = { λ f. (f.held.side ≡ f.may.side) × (f.free.side ≡ f.may.side)
-        × (vec_len f.search.reviewers ≡ f.may.side) × (vec_len f.spare ≡ f.may.side)
-        × IsTrue (is_met (demand_of f.need.items f.room.items f.may) (cell f.held))
-        × ((r p : ℕ) → r < f.may.side → p < f.may.side → cell f.free r p ≡ true → cell f.may r p ≡ true)
-        × (vec_len f.closed.reviewers ≡ f.may.side) × HasNoWayOut (residual f.free f.held) f.closed };
+    ghost invariant = { λ f. (f.ways.free.side ≡ f.may.side) × (vec_len f.search.reviewers ≡ f.may.side)
+        × IsTrue (is_met (demand_of f.need.items f.room.items f.may) (cell f.ways.held))
+        × ((r p : ℕ) → r < f.may.side → p < f.may.side → cell f.ways.free r p ≡ true → cell f.may r p ≡ true)
+        × HasNoWayOut (graph_of f.ways) f.closed };
 }
 
 /// A flow, or the shortage where no pairs meet all needs and rooms.
@@ -92,21 +88,19 @@ impl Flow {
         ensures cut_is_shortage { IfOk result (λ started. IfNotReady started (λ cut.
             IsShortage (demand_of need.now room.now may.now) (marked cut.reviewers) (marked cut.proposals))) }
     {
-        match solve(alloc, need, room, may)? {
-            Solved::Pairs(held) => {
+        match serve_all(alloc, need, room, may)? {
+            Served::All(ways) => {
                 let flow = Flow {
                     need: need.to_vec(alloc)?,
                     room: room.to_vec(alloc)?,
-                    may: copied(alloc, may)?,
-                    held,
-                    free: copied(alloc, may)?,
+                    may: may.copy(alloc)?,
+                    ways,
                     search: Search::new(alloc, may.side())?,
-                    spare: vec![in alloc; 0; may.side() as usize]?,
-                    closed: Closed::new(alloc, may.side())?,
+                    closed: Closed::empty(),
                 };
                 Ok(Started::Ready(flow))
             }
-            Solved::Short(cut) => Ok(Started::Short(cut)),
+            Served::Short(cut) => Ok(Started::Short(cut)),
         }
     }
 
@@ -117,7 +111,7 @@ impl Flow {
         ensures meet_all { IsTrue (is_met (flow_demand self.now) (cell result.now)) }
         ensures agree { Agrees self.now (cell result.now) }
     {
-        &self.held
+        self.ways.held()
     }
 
     /// Settles a pair that may be: it is kept where some pairs that meet all and agree with what is settled have it,
@@ -138,15 +132,13 @@ impl Flow {
         ensures changes_few { ChangesFew self.old.may.side (cell self.old.held) (cell self.new.held) }
     {
         let kept = hold(
-            &mut self.held,
-            &self.free,
+            &mut self.ways,
             &mut self.search,
-            &mut self.spare,
             &mut self.closed,
             reviewer,
             proposal,
         );
-        self.free.set(reviewer, proposal, false);
+        self.ways.settle(reviewer, proposal);
         kept
     }
 }

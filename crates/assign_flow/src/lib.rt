@@ -5,11 +5,15 @@
 mod closed;
 mod draft;
 mod flow;
+mod places;
 mod reroute;
+mod rooms;
 mod search;
+mod serving;
 mod solving;
-mod squares;
+mod turned;
 mod walk;
+mod ways;
 
 pub use flow::{Flow, Started};
 pub use solving::{Solved, solve};

@@ -7,8 +7,7 @@ ghost use Rattle.house_model.specs.Shortage.{is_met, IsShortage};
 ghost use Rattle.cut_gap.specs.Cut.{marked, demand_of};
 ghost use Rattle.assign_flow.specs.Solved.{IfPairs, IfShort};
 
-use crate::draft::Draft;
-use crate::search::Search;
+use crate::serving::{Served, serve_all};
 use cut_gap::Cut;
 use house_base::{Grid, Memory};
 use std::alloc::Global;
@@ -21,8 +20,7 @@ pub enum Solved {
 }
 
 /// Pairs in which each reviewer stands as often as it is needed and each proposal as often as it has room for, or the
-/// shortage that the rules print. (Ford and Fulkerson's augmenting paths; the cut is the smallest source side among the
-/// least cuts.)
+/// shortage that the rules print.
 pub fn solve(alloc: Global, need: &[u32], room: &[u32], may: &Grid) -> Result<Solved, Memory>
     requires needs { length need.now ≡ may.now.side }
     requires rooms { length room.now ≡ may.now.side }
@@ -37,16 +35,8 @@ pub fn solve(alloc: Global, need: &[u32], room: &[u32], may: &Grid) -> Result<So
     ensures cut_is_shortage { IfOk result (λ solved. IfShort solved (λ cut.
         IsShortage (demand_of need.now room.now may.now) (marked cut.reviewers) (marked cut.proposals))) }
 {
-    let mut draft = Draft::new(alloc, need, room, may)?;
-    let mut search = Search::new(alloc, may.side())?;
-    draft.fill(may);
-    for reviewer in 0..may.side() {
-        draft.serve(&mut search, may, reviewer);
+    match serve_all(alloc, need, room, may)? {
+        Served::All(ways) => Ok(Solved::Pairs(ways.into_held())),
+        Served::Short(cut) => Ok(Solved::Short(cut)),
     }
-    while draft.augment(&mut search, may) {}
-    if draft.is_complete() {
-        return Ok(Solved::Pairs(draft.into_pairs()));
-    }
-    let cut = search.cut(alloc)?;
-    Ok(Solved::Short(cut))
 }

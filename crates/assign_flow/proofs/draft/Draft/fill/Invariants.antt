@@ -1,10 +1,9 @@
 use Rattle.std.proofs.Common.{◌≡◌, ℕ}
-use Rattle.assign_flow.specs.Draft.{Drafts}
+use Rattle.assign_flow.specs.Draft.{FitsWithin}
 use Rattle.assign_flow.proofs.draft.Draft.fill.Given as goal
 
 abbrev pub invariant-loop-reviewer : goal.invariant-loop-reviewer
 invariant-loop-reviewer l = record {
-  side : l.self.held.side ≡ l.initial.self.held.side;
-  drafts : (need room : ℕ → ℕ) → Drafts l.may need room l.initial.self.held l.initial.self.unmet.items l.initial.self.spare.items
-      → Drafts l.may need room l.self.held l.self.unmet.items l.self.spare.items;
+  free : l.self.ways.free ≡ l.initial.self.ways.free;
+  fits : (need room : ℕ → ℕ) → FitsWithin need room l.initial.self → FitsWithin need room l.self;
 }

@@ -1,14 +1,22 @@
-use Rattle.std.proofs.Common.{None, sym, arith}
-use Rattle.assign_flow.specs.Residual.{residual, tree}
-use Rattle.assign_flow.proofs.TreeLemmas.{tree-none, tree-reviewer, none_some}
+use Rattle.std.proofs.Common.{◌||◌, eqb, slice_index, ap, ◌∙◌}
+use Rattle.std.proofs.lemmas.Bool.{false≢true, eqb-true, lt-ltb}
+use Rattle.assign_flow.specs.Places.{places_of}
+use Rattle.assign_flow.specs.Residual.{wanting, nowhere, only}
+use Rattle.assign_flow.specs.Search.{tree_of}
+use Rattle.assign_flow.specs.Ways.{graph_of}
+use Rattle.assign_flow.proofs.TreeLemmas.{tree-none, under_way-none, grown-wider, or_none}
 use Rattle.assign_flow.proofs.search.Search.from_reviewer.Goals as goal
 
 pub run-requires-clause-tree : goal.run-requires-clause-tree
 run-requires-clause-tree c =
-    let g = residual c.args.free.now c.args.held.now in
-    let s = c.clear.new.self in
-    let n = c.reach_reviewer.new.self in
-    let r = c.args.reviewer in
-    let t = tree s.count s.reviewers.items s.proposals.items in
-    let cleared = tree-none g t c.clear.ensures.count (λ r l. c.clear.ensures.reviewers r (omega arith)) (λ q l. c.clear.ensures.proposals q (omega arith)) in
-    tree-reviewer g t (tree n.count n.reviewers.items n.proposals.items) r None cleared c.reach_reviewer.ensures.reaches (omega arith) (c.clear.ensures.reviewers r (omega arith)) (λ p e. absurd (none_some p (sym e)))
+    tree-none (graph_of c.args.ways.now) (tree_of c.clear.new.self) c.clear.ensures.count (λ r l. c.clear.ensures.reviewers r) (λ p l. c.clear.ensures.proposals p)
+
+pub returns-clause-grown : goal.returns-clause-grown
+returns-clause-grown c =
+    let g = graph_of c.args.ways.now in
+    let goes = under_way-none g (only c.args.reviewer) nowhere (places_of c.args.room.now) (places_of c.insert.new.self) (places_of c.clear.new.self.near_proposals) (tree_of c.clear.new.self) c.clear.ensures.count c.clear.ensures.reviewers c.clear.ensures.proposals
+    (λ r l. c.insert.ensures r ∙ (ap (λ b. eqb r c.args.reviewer || b) (c.clear.ensures.near_reviewers r) ∙ or_none (eqb r c.args.reviewer)))
+    (λ p l. c.clear.ensures.near_proposals p)
+    (λ p l e. absurd (false≢true e)) in
+    grown-wider g (only c.args.reviewer) nowhere (places_of c.args.room.now) (wanting c.args.unmet.now) (tree_of c.run.new.self) (c.run.ensures.grown (only c.args.reviewer) nowhere goes)
+    (λ r l e. ap (wanting c.args.unmet.now) (eqb-true r c.args.reviewer e) ∙ lt-ltb 0 (slice_index c.args.unmet.now c.args.reviewer) c.requires.unmet)

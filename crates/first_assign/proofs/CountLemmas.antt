@@ -1,5 +1,5 @@
 use Rattle.std.proofs.Common.{◌≡◌, ℕ, ◌+◌, ◌<◌, ◌≤◌, Bool, true, false, List, length, get_or, set, sym, ap, ◌∙◌, inl, inr, arith}
-use Rattle.std.proofs.lemmas.Bool.{cases_eq}
+use Rattle.std.proofs.lemmas.Bool.{cases_eq, cases_lt}
 use Rattle.std.proofs.lemmas.List.{get_or-set_same, get_or-set_other}
 use Rattle.house_model.specs.Counting.{count_below}
 use Rattle.first_assign.proofs.StepLemmas.{count_passes, count_fails}
@@ -32,15 +32,13 @@ counts_more f row column n v counts here below read inside before = record {
   rest = λ p from pl. get_or-set_other counts column p (v + 1) 0 (λ e. omega (arith, e, from)) ∙ before.rest p (omega (arith, from)) pl;
 }
 
-pub counts_same : (f : ℕ → ℕ → Bool) (row column n : ℕ) (counts : List ℕ) → f row column ≡ false → column < n
-    → AreCounts f row column n counts → AreCounts f row (column + 1) n counts
-counts_same f row column n counts here inside before = record {
-  done = λ p pl. elim (cases_eq p column) [
-    | inl same ↦
-        ap (λ q. get_or counts q 0) same
-        ∙ (before.rest column (omega arith) inside
-        ∙ (sym (count_fails (λ r. f r column) row here) ∙ ap (λ q. count_below (λ r. f r q) (row + 1)) (sym same)))
-    | inr other ↦ before.done p (omega (arith, pl, other))
+-- over columns in which a row has nothing
+pub counts_run : (f : ℕ → ℕ → Bool) (row column to n : ℕ) (counts : List ℕ) → column ≤ to → to ≤ n → ((q : ℕ) → column ≤ q → q < to → f row q ≡ false)
+    → AreCounts f row column n counts → AreCounts f row to n counts
+counts_run f row column to n counts on inside run before = record {
+  done = λ p pl. elim (cases_lt p column) [
+    | inl early ↦ before.done p early
+    | inr late ↦ before.rest p late (omega (arith, pl, inside)) ∙ sym (count_fails (λ r. f r p) row (run p late pl))
   ];
-  rest = λ p from pl. before.rest p (omega (arith, from)) pl;
+  rest = λ p from pl. before.rest p (omega (arith, from, on)) pl;
 }

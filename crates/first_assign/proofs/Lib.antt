@@ -1,6 +1,8 @@
 pub mod CountLemmas
 pub mod DemandLemmas
+pub mod DistanceLemmas
 pub mod MarkLemmas
+pub mod MemberLemmas
 pub mod NeedLemmas
 pub mod PlaceLemmas
 pub mod SettlingLemmas

@@ -1,4 +1,4 @@
-use Rattle.std.proofs.Common.{◌≡◌, ◌≢◌, ℕ, suc, ◌+◌, ◌<◌, ◌≤◌, Bool, true, false, ◌&&◌, cond, eqb, None, Some, IsTrue, ◌↔◌, refl, sym, ap, ◌∙◌, subst, inl, inr, arith}
+use Rattle.std.proofs.Common.{◌≡◌, ◌≢◌, ℕ, zero, suc, ◌+◌, ◌-◌, ◌<◌, ◌≤◌, Bool, true, false, ◌&&◌, cond, eqb, None, Some, IsTrue, ◌↔◌, refl, sym, ap, ◌∙◌, subst, inl, inr, arith}
 use Rattle.std.proofs.lemmas.Bool.{cases_Bool, cases_eq, cases_lt, eq-eqb, ne_eqb, true≢false}
 use Rattle.house_base.specs.Grid.{cell}
 use Rattle.house_base.specs.Setting.{Setting, size, need, may}
@@ -13,7 +13,7 @@ use Rattle.house_model.proofs.ValidLemmas.{is_valid-each}
 use Rattle.cut_gap.specs.Cut.{demand_of}
 use Rattle.assign_flow.specs.Flow.{FlowParts, Agrees, CanHold, flow_demand, settled}
 use Rattle.first_assign.specs.Settling.{IsSet, SettlesOne, proposal_at, HoldsFrom, AgreeBefore, CanFollow, IsFlowFor, IsFlowOf, IsSettledTo, kept_within}
-use Rattle.first_assign.proofs.StepLemmas.{is_valid-agree}
+use Rattle.first_assign.proofs.StepLemmas.{count_run, is_valid-agree}
 
 -- Pairs that are settled in order, one more at a time.
 
@@ -233,6 +233,30 @@ settled-barred s f kept r d rl dl barred h =
       };
     }
 
+settled-barred_by : (s : Setting) (f : FlowParts) (kept : Pairs) (r d k : ℕ) → r < size s → d + k ≤ size s
+    → ((e : ℕ) → d ≤ e → e < d + k → may s r (proposal_at (size s) r e) ≡ false) → IsSettledTo s f kept r d → IsSettledTo s f kept r (d + k)
+settled-barred_by s f kept r d zero rl l barred h =
+    let P : ℕ → Type 0 = IsSettledTo s f kept r in
+    subst P (let e : d ≡ d + 0 = omega arith in e) h
+settled-barred_by s f kept r d (suc k) rl l barred h =
+    let P : ℕ → Type 0 = IsSettledTo s f kept r in
+    subst P (let e : d + k + 1 ≡ d + suc k = omega arith in e)
+    (settled-barred s f kept r (d + k) rl (omega arith) (barred (d + k) (omega arith) (omega arith))
+    (settled-barred_by s f kept r d k rl (omega arith) (λ e from el. barred e from (omega (arith, el))) h))
+
+-- the pairs up to a distance may not be
+pub settled-run : (s : Setting) (f : FlowParts) (kept : Pairs) (r d to : ℕ) → r < size s → d ≤ to → to ≤ size s
+    → ((e : ℕ) → d ≤ e → e < to → may s r (proposal_at (size s) r e) ≡ false) → IsSettledTo s f kept r d → IsSettledTo s f kept r to
+settled-run s f kept r d to rl on inside barred h =
+    let P : ℕ → Type 0 = IsSettledTo s f kept r in
+    let e : d + (to - d) ≡ to = omega arith in
+    subst P e (settled-barred_by s f kept r d (to - d) rl (omega arith) (λ k from kl. barred k from (omega (arith, kl, on))) h)
+
+-- none of them is kept
+pub kept-run : (n : ℕ) (kept : Pairs) (r d to : ℕ) → r < n → d ≤ to → to ≤ n → HoldsFrom n r d (λ i p. kept i p ≡ false) → kept_within n kept r to ≡ kept_within n kept r d
+kept-run n kept r d to rl on inside none =
+    count_run (λ e. kept r (proposal_at n r e)) d to on (λ e from el. none.row rl e from (omega (arith, el, inside)))
+
 -- the pair is settled
 pub settled-next : (s : Setting) (f g : FlowParts) (kept more : Pairs) (r d : ℕ) (answer : Bool) → r < size s → d < size s
     → Settles (size s) f g r (proposal_at (size s) r d) answer → IsSet (size s) r (proposal_at (size s) r d) answer kept more
@@ -272,10 +296,6 @@ settled-next s f g kept more r d answer rl dl new set h =
     }
 
 -- How many of a reviewer's pairs are kept.
-
-pub kept-none : (n : ℕ) (kept : Pairs) (r d : ℕ) → r < n → d < n → HoldsFrom n r d (λ i p. kept i p ≡ false) → kept_within n kept r (d + 1) ≡ kept_within n kept r d
-kept-none n kept r d rl dl h =
-    omega (arith, count_below-add_one (λ e. kept r (proposal_at n r e)) d, ap one_if (h.row rl d (omega arith) dl))
 
 pub kept-next : (n : ℕ) (kept more : Pairs) (r d : ℕ) (answer : Bool) → r < n → d < n → IsSet n r (proposal_at n r d) answer kept more
     → kept_within n more r (d + 1) ≡ kept_within n kept r d + one_if answer

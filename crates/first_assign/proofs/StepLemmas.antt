@@ -1,9 +1,9 @@
-use Rattle.std.proofs.Common.{◌≡◌, ℕ, suc, ◌+◌, ◌<◌, Bool, true, false, not, ◌&&◌, ◌||◌, ◌==◌, ap, ◌∙◌, inl, inr, arith}
-use Rattle.std.proofs.lemmas.Bool.{and_from, and_cases, and_left, and_right}
+use Rattle.std.proofs.Common.{◌≡◌, ℕ, suc, ◌+◌, ◌-◌, ◌<◌, ◌≤◌, Bool, true, false, not, ◌&&◌, ◌||◌, ◌==◌, ap, ◌∙◌, inl, inr, arith}
+use Rattle.std.proofs.lemmas.Bool.{cases_lt, and_from, and_cases, and_left, and_right}
 use Rattle.house_base.specs.Setting.{Setting, size, need, may}
 use Rattle.house_model.specs.Counting.{count_below, all_below}
 use Rattle.house_model.specs.Profile.{is_valid}
-use Rattle.house_model.proofs.CountingLemmas.{all_below-suc, all_below-same, all_below-fails, count_below-passes, count_below-fails, count_below-same}
+use Rattle.house_model.proofs.CountingLemmas.{all_below-suc, all_below-same, all_below-fails, all_below-each, all_below-from, count_below-append, count_below-none, count_below-passes, count_below-fails, count_below-same}
 
 -- Steps of the tests and counts of an assignment.
 
@@ -16,6 +16,21 @@ count_passes test n h = omega (arith, ap (count_below test) (let e : n + 1 ≡ s
 
 pub count_fails : (test : ℕ → Bool) (n : ℕ) → test n ≡ false → count_below test (n + 1) ≡ count_below test n
 count_fails test n h = omega (arith, ap (count_below test) (let e : n + 1 ≡ suc n = omega arith in e), count_below-fails test n h)
+
+-- Many steps at once, over numbers that pass or that fail.
+
+pub all_run : (test : ℕ → Bool) (m n : ℕ) → all_below test m ≡ true → ((i : ℕ) → m ≤ i → i < n → test i ≡ true) → all_below test n ≡ true
+all_run test m n before run =
+    all_below-from test n (λ i l. elim (cases_lt i m) [ inl early ↦ all_below-each test m before i early | inr late ↦ run i late l ])
+
+pub count_run : (test : ℕ → Bool) (m n : ℕ) → m ≤ n → ((i : ℕ) → m ≤ i → i < n → test i ≡ false) → count_below test n ≡ count_below test m
+count_run test m n l run =
+    omega (
+      arith,
+      ap (count_below test) (let e : n ≡ m + (n - m) = omega arith in e),
+      count_below-append test m (n - m),
+      count_below-none (λ i. test (m + i)) (n - m) (λ i il. run (m + i) (omega arith) (omega (arith, il, l))),
+    )
 
 -- An assignment is valid by its rows and the counts of its columns.
 

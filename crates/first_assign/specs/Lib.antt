@@ -1,3 +1,4 @@
 pub mod FirstPlaces
 pub mod First
+pub mod Members
 pub mod Settling

@@ -1,5 +1,5 @@
 use Rattle.std.specs.Prelude.{◌≡◌, ℕ, ◌+◌, ◌%◌, ◌<◌, ◌≤◌, ◌↔◌, ◌==◌, ◌&&◌, Bool, true, false, Some, None, IsTrue, if◌then◌else◌}
-use Rattle.house_base.specs.Grid.{cell}
+use Rattle.house_base.specs.Grid.{Square, cell}
 use Rattle.house_base.specs.Setting.{Setting, size, may}
 use Rattle.house_model.specs.Counting.{count_below}
 use Rattle.house_model.specs.Profile.{Pairs, is_valid}
@@ -59,6 +59,11 @@ pub record CanFollow (s : Setting) (f : FlowParts) : Type 0 where
   pub pairs : Pairs
   pub valid : IsTrue (is_valid s pairs)
   pub agrees : Agrees f pairs
+
+-- a square has the pairs that may be
+pub record HasAllowed (s : Setting) (square : Square) : Type 0 where
+  pub side : square.side ≡ size s
+  pub pairs : (r p : ℕ) → r < size s → p < size s → cell square r p ≡ may s r p
 
 -- a flow is one of the pairs that may be and the assignments that are valid
 pub record IsFlowFor (s : Setting) (f : FlowParts) : Type 0 where

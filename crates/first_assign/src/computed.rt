@@ -8,7 +8,7 @@ ghost use Rattle.house_model.specs.Profile.{Pairs, is_valid};
 ghost use Rattle.house_model.specs.Shortage.{IsShortage, assignment_demand};
 ghost use Rattle.cut_gap.specs.Cut.{marked};
 ghost use Rattle.first_assign.specs.First.{IfFirst, IfNoneIsValid};
-ghost use Rattle.first_assign.specs.Settling.{IsFlowOf};
+ghost use Rattle.first_assign.specs.Settling.{HasAllowed, IsFlowOf};
 
 use crate::answer::First;
 use crate::demand::{allowed, needs, rooms};
@@ -37,18 +37,19 @@ pub fn first(alloc: Global, plan: &Plan) -> Result<First, Memory>
     let rooms = rooms(alloc, plan)?;
     let allowed = allowed(alloc, plan)?;
     match Flow::start(alloc, &needs, &rooms, &allowed)? {
-        Started::Ready(flow) => Ok(First::Pairs(first_pairs(alloc, plan, flow)?)),
+        Started::Ready(flow) => Ok(First::Pairs(first_pairs(alloc, plan, &allowed, flow)?)),
         Started::Short(cut) => Ok(First::Short(cut)),
     }
 }
 
 /// The first assignment, from a flow of the plan in which nothing is settled.
-fn first_pairs(alloc: Global, plan: &Plan, mut flow: Flow) -> Result<Grid, Memory>
-    requires { IsFlowOf plan.now flow }
+fn first_pairs(alloc: Global, plan: &Plan, allowed: &Grid, mut flow: Flow) -> Result<Grid, Memory>
+    requires allowed { HasAllowed plan.now allowed.now }
+    requires flow { IsFlowOf plan.now flow }
     ensures side { IfOk result (λ pairs. pairs.side ≡ size plan.now) }
     ensures first { IfOk result (λ pairs. IsFirst plan.now (cell pairs)) }
 {
     let mut pairs = Grid::new(alloc, flow.pairs().side())?;
-    settle_all(plan, &mut flow, &mut pairs);
+    settle_all(plan, allowed, &mut flow, &mut pairs);
     Ok(pairs)
 }

@@ -8,6 +8,7 @@ mod demand;
 pub mod fault;
 mod feasibility;
 pub mod hand_made;
+mod members;
 mod settling;
 mod valid;
 

@@ -3,6 +3,7 @@
 ghost use Rattle.std.specs.Prelude.{◌≡◌, ℕ, ◌+◌, ◌<◌, ◌≤◌, ◌==◌, ◌&&◌, ◌||◌, not, IsTrue, length, slice_index};
 ghost use Rattle.house_base.specs.Grid.{cell};
 ghost use Rattle.house_base.specs.Setting.{size, need, may};
+ghost use Rattle.house_base.specs.declared.limits.TheConstants.{MOST_APPLICANTS};
 ghost use Rattle.house_model.specs.Counting.{count_below, all_below};
 ghost use Rattle.house_model.specs.Profile.{is_valid};
 
@@ -30,6 +31,7 @@ pub fn is_valid(plan: &Plan, pairs: &Grid) -> bool
 /// counted for its proposal, beside those of the reviewers before.
 fn row_is_valid(plan: &Plan, pairs: &Grid, reviewer: u32, received: &mut [u32]) -> bool
     requires side { pairs.now.side ≡ size plan.now }
+    requires most { size plan.now ≤ MOST_APPLICANTS }
     requires below { reviewer < size plan.now }
     requires each { size plan.now ≤ length received.old }
     requires before { (p : ℕ) → p < size plan.now
@@ -42,14 +44,14 @@ fn row_is_valid(plan: &Plan, pairs: &Grid, reviewer: u32, received: &mut [u32]) 
         → slice_index received.new p ≡ count_below (λ r. cell pairs.now r p) (reviewer + 1) }
 {
     let mut count = 0;
-    for proposal in 0..pairs.side() {
-        if pairs.get(reviewer, proposal) {
-            if !plan.may(reviewer, proposal) {
-                return false;
-            }
-            count += 1;
-            received[proposal as usize] += 1;
+    let mut from = 0;
+    while let Some(proposal) = pairs.next_in_row(reviewer, from) {
+        if !plan.may(reviewer, proposal) {
+            return false;
         }
+        count += 1;
+        received[proposal as usize] += 1;
+        from = proposal + 1;
     }
     count == plan.need(reviewer)
 }

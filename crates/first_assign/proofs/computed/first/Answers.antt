@@ -21,12 +21,15 @@ first_pairs-requires c =
     let each_room = λ (p : ℕ) (l : p < size s). ap (λ xs. get_or xs p 0) (rooms ∙ c.deref-2.ensures.value) ∙ c.in_ok-rooms.ensures.rooms p l in
     let each_pair = λ (r : ℕ) (p : ℕ) (l : r < size s) (k : p < size s). cells r p (omega (arith, l, c.in_ok-allowed.ensures.side)) (omega (arith, k, c.in_ok-allowed.ensures.side)) ∙ c.in_ok-allowed.ensures.pairs r p l k in
     record {
+      allowed = record { side = c.in_ok-allowed.ensures.side; pairs = c.in_ok-allowed.ensures.pairs };
       flow = record {
-        side = side;
-        allowed = each_pair;
-        meets = λ y. met-same (flow_demand f) (assignment_demand s) (asks-assignment s f.needs f.rooms f.may side each_need each_room each_pair) y ∙ met-valid s y;
+        flow = record {
+          side = side;
+          allowed = each_pair;
+          meets = λ y. met-same (flow_demand f) (assignment_demand s) (asks-assignment s f.needs f.rooms f.may side each_need each_room each_pair) y ∙ met-valid s y;
+        };
+        unsettled = λ r p l k. none r p (omega (arith, l, c.in_ok-allowed.ensures.side)) (omega (arith, k, c.in_ok-allowed.ensures.side));
       };
-      unsettled = λ r p l k. none r p (omega (arith, l, c.in_ok-allowed.ensures.side)) (omega (arith, k, c.in_ok-allowed.ensures.side));
     }
 
 pub returns-clause-short_where_none_is_valid : goal.returns-clause-short_where_none_is_valid

@@ -1,8 +1,8 @@
-use Rattle.std.proofs.Common.{◌≡◌, ℕ, false, sym, ◌∙◌, subst, arith}
+use Rattle.std.proofs.Common.{ℕ, subst, arith}
 use Rattle.house_base.specs.Grid.{cell}
-use Rattle.house_base.specs.Setting.{size, may}
+use Rattle.house_base.specs.Setting.{size}
 use Rattle.first_assign.specs.Settling.{IsSet, SettlesOne, proposal_at}
-use Rattle.first_assign.proofs.SettlingLemmas.{kept-none, kept-next, settled-barred, settled-next, settles-one}
+use Rattle.first_assign.proofs.SettlingLemmas.{kept-next, settled-next, settles-one}
 use Rattle.first_assign.proofs.settling.settle_at.Goals as goal
 
 pub overflow_add-proposal : goal.overflow_add-proposal
@@ -10,19 +10,6 @@ overflow_add-proposal c = omega (arith, c.requires.reviewer_below, c.count-count
 
 pub overflow_add-proposal-2 : goal.overflow_add-proposal-2
 overflow_add-proposal-2 c = omega (arith, c.requires.reviewer_below, c.requires.distance_below, c.count-count.ensures.setting.few)
-
-pub returns-then-not-may-clause-settled : goal.returns-then-not-may-clause-settled
-returns-then-not-may-clause-settled c =
-    let s = c.args.plan.now in
-    let r = c.args.reviewer in
-    let d = c.args.distance in
-    let P : ℕ → Type 0 = λ n. may s r (proposal_at n r d) ≡ false in
-    settled-barred s c.args.flow.now (cell c.args.pairs.now) r d c.requires.reviewer_below c.requires.distance_below
-    (subst P c.count-count.ensures.value (sym c.may.ensures ∙ c.if-not-may.true)) c.requires.settled
-
-pub returns-then-not-may-clause-counted : goal.returns-then-not-may-clause-counted
-returns-then-not-may-clause-counted c =
-    omega (arith, kept-none (size c.args.plan.now) (cell c.args.pairs.now) c.args.reviewer c.args.distance c.requires.reviewer_below c.requires.distance_below c.requires.settled.none_kept)
 
 pub returns-clause-settled : goal.returns-clause-settled
 returns-clause-settled c =

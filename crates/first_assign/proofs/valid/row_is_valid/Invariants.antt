@@ -1,4 +1,4 @@
-use Rattle.std.proofs.Common.{◌≡◌, true, ◌≤◌, ◌||◌, not, length}
+use Rattle.std.proofs.Common.{◌≡◌, true, ◌-◌, ◌≤◌, ◌||◌, not, length}
 use Rattle.house_base.specs.Grid.{cell}
 use Rattle.house_base.specs.Setting.{size, may}
 use Rattle.house_model.specs.Counting.{all_below, count_below}
@@ -7,9 +7,14 @@ use Rattle.first_assign.proofs.valid.row_is_valid.Given as goal
 
 abbrev pub invariant-loop-proposal : goal.invariant-loop-proposal
 invariant-loop-proposal l = record {
-  may_be : all_below (λ p. not (cell l.pairs l.reviewer p) || may l.plan l.reviewer p) l.proposal ≡ true;
-  counted : l.count ≡ count_below (cell l.pairs l.reviewer) l.proposal;
-  most : l.count ≤ l.proposal;
+  from : l.from ≤ size l.plan;
+  may_be : all_below (λ p. not (cell l.pairs l.reviewer p) || may l.plan l.reviewer p) l.from ≡ true;
+  counted : l.count ≡ count_below (cell l.pairs l.reviewer) l.from;
+  most : l.count ≤ l.from;
   each : length l.received ≡ length l.fn.received;
-  received : AreCounts (cell l.pairs) l.reviewer l.proposal (size l.plan) l.received;
+  received : AreCounts (cell l.pairs) l.reviewer l.from (size l.plan) l.received;
 }
+
+-- the columns that are left
+abbrev pub decreases-loop-proposal : goal.decreases-loop-proposal
+decreases-loop-proposal l = size l.plan - l.from

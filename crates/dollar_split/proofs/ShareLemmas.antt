@@ -1,14 +1,14 @@
-use Rattle.std.proofs.Common.{◌≡◌, ◌≢◌, ℕ, ◌+◌, ◌*◌, ◌/◌, ◌%◌, ◌<◌, ◌≤◌, true, false, ◌&&◌, ◌||◌, eqb, ltb, Bool, List, length, map, sum, get_or, set, refl, sym, ap, ◌∙◌, arith, below_more}
-use Rattle.std.proofs.lemmas.Bool.{cond-true, cond-false}
+use Rattle.std.proofs.Common.{◌≡◌, ◌≢◌, ℕ, ◌+◌, ◌*◌, ◌/◌, ◌%◌, ◌<◌, ◌≤◌, true, false, ◌&&◌, ◌||◌, eqb, ltb, leb, inl, inr, Bool, List, length, map, sum, get_or, set, refl, sym, ap, ◌∙◌, arith, below_more}
+use Rattle.std.proofs.lemmas.Bool.{cond-true, cond-false, cases_lt, lt-ltb, le-ltb, ltb-true, le-leb, lt-leb, leb-true}
 use Rattle.std.proofs.lemmas.Bool.Decides.{nat_tests}
 use Rattle.std.proofs.lemmas.List.{get_or-map, get_or-set_same, get_or-set_other}
 use mir.Val.{bool_byte}
 use Rattle.house_base.specs.declared.limits.TheConstants.{DOLLAR, MOST_OWN, MOST_REVIEWS}
 use Rattle.house_model.specs.Counting.{count_below, sum_below}
 use Rattle.house_model.specs.Split.{weights, base_at, remainder_at, left_over, comes_before, cents_at}
-use Rattle.house_model.proofs.CountingLemmas.{one_if, count_below-add_one, count_below-same, sum_below-term, sum_below-same}
+use Rattle.house_model.proofs.CountingLemmas.{one_if, count_below-add_one, count_below-same, count_below-mono, count_below-more, sum_below-term, sum_below-same}
 use Rattle.house_model.proofs.SplitLemmas.{left_over-less, cents-sum, sum_below-items}
-use Rattle.dollar_split.specs.Weighed.{is_silent, priority_of, is_among_first, extra_at}
+use Rattle.dollar_split.specs.Weighed.{is_silent, priority_of, is_among_first, extra_at, count_reaching}
 
 -- Weights and shares.
 
@@ -92,3 +92,21 @@ cents-whole points cents same some h =
     sym (sum_below-items cents)
     ∙ (ap (sum_below (λ i. get_or cents i 0)) (sym same)
     ∙ (sum_below-same (λ i. get_or cents i 0) (cents_at points) n h ∙ cents-sum points some))
+
+-- where so many priorities reach a bound, just those are among the first so many
+pub among_first-reaching : (priorities : List ℕ) (left bound i : ℕ) → i < length priorities → count_reaching priorities bound ≡ left
+    → leb bound (get_or priorities i 0) ≡ is_among_first priorities left i
+unfolding is_among_first
+among_first-reaching priorities left bound i below many =
+    let p = get_or priorities in
+    let greater : ℕ → Bool = λ j. ltb (p i 0) (p j 0) in
+    let reaches : ℕ → Bool = λ j. leb bound (p j 0) in
+    elim (cases_lt (p i 0) bound) [
+      | inl short ↦
+          let fewer = count_below-mono reaches greater (length priorities) (λ j l r. lt-ltb (p i 0) (p j 0) (omega (arith, short, leb-true bound (p j 0) r))) in
+          lt-leb bound (p i 0) short ∙ sym (le-ltb (count_below greater (length priorities)) left (omega (arith, many, fewer)))
+      | inr reached ↦
+          let fewer = count_below-more greater reaches (length priorities) i (λ j l g. le-leb bound (p j 0) (omega (arith, reached, ltb-true (p i 0) (p j 0) g))) below
+          (le-ltb (p i 0) (p i 0) (omega arith)) (le-leb bound (p i 0) reached) in
+          le-leb bound (p i 0) reached ∙ sym (lt-ltb (count_below greater (length priorities)) left (omega (arith, many, fewer)))
+    ]

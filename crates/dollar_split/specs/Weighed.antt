@@ -1,4 +1,4 @@
-use Rattle.std.specs.Prelude.{◌≡◌, ℕ, ◌+◌, ◌-◌, ◌*◌, ◌≤◌, Bool, List, length, sum, slice_index, All, ◌==◌, nat_lt, if◌then◌else◌}
+use Rattle.std.specs.Prelude.{◌≡◌, ℕ, ◌+◌, ◌-◌, ◌*◌, ◌≤◌, Bool, List, length, sum, slice_index, All, ◌==◌, nat_le, nat_lt, if◌then◌else◌}
 use Rattle.std.specs.List.{list_all}
 use Rattle.house_base.specs.declared.limits.TheConstants.{MOST_OWN, MOST_POINTS, MOST_REVIEWS}
 use Rattle.house_model.specs.Counting.{count_below}
@@ -30,6 +30,10 @@ priority_of remainder i = remainder * (MOST_REVIEWS * MOST_OWN) + (MOST_REVIEWS 
 unfoldable pub is_among_first : List ℕ → ℕ → ℕ → Bool
 is_among_first priorities left i =
     nat_lt (count_below (λ j. nat_lt (slice_index priorities i) (slice_index priorities j)) (length priorities)) left
+
+-- how many priorities reach a bound
+abbrev pub count_reaching : List ℕ → ℕ → ℕ
+count_reaching priorities bound = count_below (λ j. nat_le bound (slice_index priorities j)) (length priorities)
 
 -- the cents left over that go to an index
 abbrev pub extra_at : List ℕ → ℕ → ℕ → ℕ

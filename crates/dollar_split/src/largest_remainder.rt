@@ -1,8 +1,8 @@
 //! The largest remainder rule: whole shares first, then the cents left over to the greatest remainders.
 
-ghost use Rattle.std.specs.Prelude.{◌≡◌, ℕ, ◌+◌, ◌*◌, ◌<◌, ◌≤◌, All, length, slice_index, sum};
+ghost use Rattle.std.specs.Prelude.{◌≡◌, ℕ, ◌+◌, ◌*◌, ◌<◌, ◌≤◌, nat_le, if◌then◌else◌, IfSome, All, length, slice_index, sum};
 ghost use Rattle.house_model.specs.Split.{weights, base_at, remainder_at, left_over, cents_at};
-ghost use Rattle.dollar_split.specs.Weighed.{IsSplit, IsWeighed, is_silent, priority_of, is_among_first, extra_at};
+ghost use Rattle.dollar_split.specs.Weighed.{IsSplit, IsWeighed, is_silent, priority_of, is_among_first, extra_at, count_reaching};
 
 use house_base::limits::{DOLLAR, MOST_OWN, MOST_POINTS, MOST_REVIEWS};
 
@@ -26,7 +26,7 @@ pub fn split(points: &[u32], cents: &mut [u32])
     let mut room = [0; MOST_SHARES];
     let priorities = &mut room[..points.len()];
     let left = give_bases(points, silent, total, cents, priorities);
-    give_left_over(priorities, left, cents);
+    give_left_over(priorities, left, total * MOST_SHARES as u32 + 1, cents);
 }
 
 /// Whether all points are 0.
@@ -100,8 +100,70 @@ fn priority(remainder: u32, i: usize) -> u32
     remainder * MOST_SHARES as u32 + (MOST_SHARES - i) as u32
 }
 
-/// Gives the cents left over one each to the greatest priorities.
-fn give_left_over(priorities: &[u32], left: u32, cents: &mut [u32])
+/// Gives the cents left over one each to the greatest priorities, all of which are below a limit.
+fn give_left_over(priorities: &[u32], left: u32, limit: u32, cents: &mut [u32])
+    requires same_length { length priorities.now ≡ length cents.old }
+    requires few { length priorities.now ≤ MOST_REVIEWS * MOST_OWN }
+    requires room { (i : ℕ) → i < length priorities.now → slice_index cents.old i ≤ DOLLAR }
+    ensures { (i : ℕ) → i < length priorities.now →
+        slice_index cents.new i ≡ slice_index cents.old i + extra_at priorities.now left i }
+{
+    match bound_of(priorities, left, limit) {
+        Some(bound) => give_to_reaching(priorities, bound, cents),
+        None => give_to_first(priorities, left, cents),
+    }
+}
+
+/// A bound that so many priorities reach, where halving what is below a limit comes upon one.
+fn bound_of(priorities: &[u32], many: u32, limit: u32) -> Option<u32>
+    requires { length priorities.now ≤ MOST_REVIEWS * MOST_OWN }
+    ensures { IfSome result (λ bound. count_reaching priorities.now bound ≡ many) }
+{
+    let mut low = 0;
+    let mut high = limit;
+    while high - low > 1 {
+        let middle = low + (high - low) / 2;
+        let count = count_reaching(priorities, middle);
+        if count == many {
+            return Some(middle);
+        }
+        if count > many {
+            low = middle;
+        } else {
+            high = middle;
+        }
+    }
+    None
+}
+
+/// How many priorities reach a bound.
+fn count_reaching(priorities: &[u32], bound: u32) -> u32
+    requires { length priorities.now ≤ MOST_REVIEWS * MOST_OWN }
+    ensures { result ≡ count_reaching priorities.now bound }
+{
+    let mut count = 0;
+    for j in 0..priorities.len() {
+        if priorities[j] >= bound {
+            count += 1;
+        }
+    }
+    count
+}
+
+/// Gives one cent each to the priorities that reach a bound.
+fn give_to_reaching(priorities: &[u32], bound: u32, cents: &mut [u32])
+    requires same_length { length priorities.now ≡ length cents.old }
+    requires room { (i : ℕ) → i < length priorities.now → slice_index cents.old i ≤ DOLLAR }
+    ensures { (i : ℕ) → i < length priorities.now → slice_index cents.new i
+        ≡ slice_index cents.old i + (if nat_le bound (slice_index priorities.now i) then 1 else 0) }
+{
+    for i in 0..priorities.len() {
+        cents[i] += u32::from(priorities[i] >= bound);
+    }
+}
+
+/// Gives one cent each to the first priorities, so many.
+fn give_to_first(priorities: &[u32], left: u32, cents: &mut [u32])
     requires same_length { length priorities.now ≡ length cents.old }
     requires few { length priorities.now ≤ MOST_REVIEWS * MOST_OWN }
     requires room { (i : ℕ) → i < length priorities.now → slice_index cents.old i ≤ DOLLAR }

@@ -1,6 +1,6 @@
 use Rattle.std.proofs.Common.{◌≡◌, ℕ, ◌+◌, ◌<◌, ◌≤◌, length, get_or}
 use Rattle.dollar_split.specs.Weighed.{extra_at}
-use Rattle.dollar_split.proofs.largest_remainder.give_left_over.Given as goal
+use Rattle.dollar_split.proofs.largest_remainder.give_to_first.Given as goal
 
 -- those so far have what is left over for them, and the others wait
 abbrev pub invariant-loop-i : goal.invariant-loop-i

@@ -49,6 +49,20 @@ between_skips t from y n front old new h l fail many is =
     ∙ ap (λ xs. front ++ xs) (row_skips t (λ k. from + k) (y - from) y found found refl (let e : y ≡ from + (y - from) = omega arith in e) fail refl
     ∙ ap (among_places t from) (let e : y - from + 1 ≡ n = omega arith in e)))
 
+between_skips_by : (t : ℕ → Bool) (from y k : ℕ) (front old : List ℕ) → old ≡ front ++ among_places t from (y - from) → from ≤ y
+    → ((q : ℕ) → y ≤ q → q < y + k → t q ≡ false) → old ≡ front ++ among_places t from (y + k - from)
+between_skips_by t from y zero front old h l none = h ∙ ap (λ n. front ++ among_places t from n) (let e : y - from ≡ y + 0 - from = omega arith in e)
+between_skips_by t from y (suc k) front old h l none =
+    between_skips t from (y + k) (y + suc k - from) front old old (between_skips_by t from y k front old h l (λ q above below. none q above (omega (arith, below)))) (omega arith)
+    (none (y + k) (omega arith) (omega arith)) (omega (arith, l)) refl
+
+-- many places more that are not taken
+pub between_run : (t : ℕ → Bool) (from y to : ℕ) (front old : List ℕ) → old ≡ front ++ among_places t from (y - from) → from ≤ y → y ≤ to
+    → ((q : ℕ) → y ≤ q → q < to → t q ≡ false) → old ≡ front ++ among_places t from (to - from)
+between_run t from y to front old h l on none =
+    between_skips_by t from y (to - y) front old h l (λ q above below. none q above (omega (arith, below, on)))
+    ∙ ap (λ n. front ++ among_places t from n) (let e : y + (to - y) - from ≡ to - from = omega (arith, on) in e)
+
 -- the places round a reviewer are those behind it and those up to it
 
 numbers_below-plus : (a b : ℕ) → numbers_below (a + b) ≡ numbers_below a ++ map (λ k. a + k) (numbers_below b)

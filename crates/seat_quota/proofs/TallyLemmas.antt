@@ -11,7 +11,7 @@ use Rattle.house_model.specs.Profile.{row, cents, score, is_valid}
 use Rattle.house_model.specs.Split.{cents_at}
 use Rattle.house_model.proofs.CountingLemmas.{numbers_below-add_one, length-numbers_below, get_or-numbers_below, sum_below-term}
 use Rattle.house_model.proofs.RowLemmas.{row-below}
-use Rattle.review_desk.specs.Desk.{Marks, IsSetUp, place_under, points_at, desk_profile, profile_on}
+use Rattle.review_desk.specs.Desk.{Marks, IsSetUp, points_at, desk_profile, profile_on}
 use Rattle.seat_quota.specs.Tally.{HoldsRows, IsGiven, IsTally, row_at}
 use Rattle.seat_quota.specs.Totals.{Shares, IsSummed, IsRow, IsExchange, row_among, found_in}
 use Rattle.seat_quota.proofs.ExchangeLemmas.{item, map-same, found_whole, score-change, cents_at-most}
@@ -115,8 +115,8 @@ IsSetUp-kept s d d' r p x h pairs reviewers proposals few points = record {
   side = ap (λ (g : Square). g.side) pairs ∙ h.side;
   valid = ap (λ (g : Square). is_valid s (cell g)) pairs ∙ h.valid;
   most = λ i k il kl. omega (arith, points i k (omega (arith, h.side)) (omega (arith, h.side)), either (nat_eq i r && nat_eq k p) (points_at d i k) (h.most i k il kl));
-  reviewers = λ name. ap (λ places. place_under places name) reviewers ∙ h.reviewers name;
-  proposals = λ name. ap (λ places. place_under places name) proposals ∙ h.proposals name;
+  reviewers = reviewers ∙ h.reviewers;
+  proposals = proposals ∙ h.proposals;
 }
   where
     either : (b : Bool) (y : ℕ) → y ≤ MOST_POINTS → cond b x y ≤ MOST_POINTS

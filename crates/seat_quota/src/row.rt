@@ -41,10 +41,13 @@ fn push_between(
     ensures { OnOk result
         (row.new.items ≡ row.old.items ++ among_places (cell pairs.now reviewer) from (to - from)) }
 {
-    for proposal in from..to {
-        if pairs.get(reviewer, proposal) {
-            row.push(proposal)?;
+    let mut next = from;
+    while let Some(proposal) = pairs.next_in_row(reviewer, next) {
+        if proposal >= to {
+            return Ok(());
         }
+        row.push(proposal)?;
+        next = proposal + 1;
     }
     Ok(())
 }

@@ -86,7 +86,8 @@ impl Tally {
         }
     }
 
-    /// Sets the points of one pair, and exchanges the cents of the one person's row.
+    /// Sets the points of one pair, and exchanges the cents of the one person's row. Points that stand already change
+    /// nothing.
     fn keep(&mut self, plan: &Plan, review: Review)
         requires set_up { IsTally plan.now self.old }
         requires reviewer { review.reviewer < size plan.now }
@@ -98,6 +99,9 @@ impl Tally {
         ensures pairs { self.new.desk.pairs ≡ self.old.desk.pairs }
         ensures set_up { IsTally plan.now self.new }
     {
+        if self.desk.points(review.reviewer, review.proposal) == review.points {
+            return;
+        }
         let at = review.reviewer as usize;
         let row = self.rows[at].as_slice();
         self.desk.keep(review);

@@ -76,9 +76,9 @@ end_stopped g lines h s is some few = at_stop (stop_of (halt g) lines) refl (rw 
     at_stop (Some at) e q = rw (ends_at_stop g lines at e) (answer s at.0 at.1 e q)
 
 -- what the outcome of a tally is, by the lines
-outcome_is : (lines : Lines) (round : Round) (tally : DeskTotals) (outcome : OutcomeParts) (asides : Asides) (draw : ℕ) → round.plan ≡ setting lines → IsTallyOf lines tally →
-    IsTally round.plan tally → asides ≡ asides_of goal.Run lines → draw ≡ draw_of lines → draw < denominator round.plan →
-    outcome ≡ outcome_of (desk_profile round.plan tally.desk) asides draw → IsOutcome lines outcome
+outcome_is : (lines : Lines) (round : Round) (tally : DeskTotals) (outcome : OutcomeParts) (asides : Asides) (draw : ℕ) → round.plan.value ≡ setting lines → IsTallyOf lines tally →
+    IsTally round.plan.value tally → asides ≡ asides_of goal.Run lines → draw ≡ draw_of lines → draw < denominator round.plan.value →
+    outcome ≡ outcome_of (desk_profile round.plan.value tally.desk) asides draw → IsOutcome lines outcome
 unfolding profile
 outcome_is lines round tally outcome asides draw plan said is is_asides is_draw below made =
     let desk = tally.desk in
@@ -108,9 +108,9 @@ for_report s asked drawn = elim asked [
 ]
 
 -- a draw that was fixed is below the denominator
-pub drawn_below : (s : State) (round : Round) → IsState s → s.round ≡ Some round → is_drawn s.phase ≡ true → s.draw < denominator round.plan
+pub drawn_below : (s : State) (round : Round) → IsState s → s.round ≡ Some round → is_drawn s.phase ≡ true → s.draw < denominator round.plan.value
 drawn_below s round is fixed drawn =
-    let same : denominator round.plan ≡ denominator_of s.book = rw fixed at is.settled in
+    let same : denominator round.plan.value ≡ denominator_of s.book = rw fixed at is.settled in
     let below : s.draw < denominator_of s.book = is.drawn (drawn_by s.phase drawn) in
     rw same below
 
@@ -121,9 +121,9 @@ no_tally s round is run fixed none =
     let held : false ≡ true = rw none at kept in
     false≢true held
 
-pub tally_of : (s : State) (round : Round) (tally : DeskTotals) → IsState s → s.round ≡ Some round → round.tally ≡ Some tally → IsTally round.plan tally
+pub tally_of : (s : State) (round : Round) (tally : DeskTotals) → IsState s → s.round ≡ Some round → round.tally ≡ Some tally → IsTally round.plan.value tally
 tally_of s round tally is fixed some =
-    let held : IfSome round.tally (λ t. IsTally round.plan t) = rw fixed at is.tallied in
+    let held : IfSome round.tally (λ t. IsTally round.plan.value t) = rw fixed at is.tallied in
     rw some at held
 
 pub untallied : (s : State) (round : Round) → IsState s → (s.goal ≡ goal.Run) ⊎ (s.phase ≡ phase.Opening) → is_drawn s.phase ≡ true → s.round ≡ Some round → round.tally ≡ None → ⊥
@@ -171,7 +171,7 @@ module _ (g : Goal) (lines : Lines) (h : Standing) (is : StandsFor g lines h) (n
   -- the outcome of its assignment at its draw
   pub end_done : (round : Round) (tally : DeskTotals) (outcome : OutcomeParts) → IsState h.state → (h.state.goal ≡ goal.Run) ⊎ (h.state.phase ≡ phase.Opening) →
       is_some h.state.call ≡ true → is_drawn h.state.phase ≡ true → h.state.round ≡ Some round → round.tally ≡ Some tally →
-      outcome ≡ outcome_of (desk_profile round.plan tally.desk) h.state.asides h.state.draw → EndsAs (ended (halt g) lines) lines (Ok outcome)
+      outcome ≡ outcome_of (desk_profile round.plan.value tally.desk) h.state.asides h.state.draw → EndsAs (ended (halt g) lines) lines (Ok outcome)
   end_done round tally outcome state asked some drawn fixed has_tally made =
       let says = going_says g lines h is none in
       let run : h.state.goal ≡ goal.Run = for_report h.state asked drawn in

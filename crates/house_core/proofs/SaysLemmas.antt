@@ -225,15 +225,15 @@ module _ (lines : Lines) (s : State) (x : Text) (answer : Took) (new : State) (s
       )
 
   -- where the round looks at the line
-  looked : (r : Round) → IsRoundOf s.goal lines r → IfSome r.tally (λ t. IsTally r.plan t) → IsRegister s.book → kind_before (phase_after lines) (review_in x) ≡ None → LooksAt (Some r) s (review_in x) answer new →
+  looked : (r : Round) → IsRoundOf s.goal lines r → IfSome r.tally (λ t. IsTally r.plan.value t) → IsRegister s.book → kind_before (phase_after lines) (review_in x) ≡ None → LooksAt (Some r) s (review_in x) answer new →
       (answer ≡ took_of s.goal lines x) × Says after new
   looked r said tallied registered before looks =
       let formed : AreFormed (register lines) = formed-same s.book (register lines) says.book registered.names_formed in
-      let found : kind_of s.goal lines x ≡ kind_at s.book r (review_in x) = found_by r.plan r.tally said.plan said.tally tallied formed before in
+      let found : kind_of s.goal lines x ≡ kind_at s.book r (review_in x) = found_by r.plan.value r.tally said.plan said.tally tallied formed before in
       let round_after : IsRoundOf s.goal after looks.0 = record {
         fixed = has-review verb.Assign lines x review refl ∙ said.fixed;
         plan = looks.1.plan ∙ said.plan ∙ sym (setting-review lines x review);
-        tally = tally_after r.plan r.tally looks.0.tally said.plan said.tally tallied formed before looks.1.tally;
+        tally = tally_after r.plan.value r.tally looks.0.tally said.plan said.tally tallied formed before looks.1.tally;
       } in (
         looks.2 ∙ took_review s.goal lines x (kind_at s.book r (review_in x)) review found,
         subst (λ n. Says after n) (sym looks.3)
@@ -245,7 +245,7 @@ module _ (lines : Lines) (s : State) (x : Text) (answer : Took) (new : State) (s
       (answer ≡ took_of s.goal lines x) × Says after new
   looked_by None is before looks = absurd looks
   looked_by (Some r) is before looks =
-      looked r (subst (HasRound s.goal lines) is says.round) (subst (λ o. IfSome o (λ r. IfSome r.tally (λ t. IsTally r.plan t))) is state.tallied)
+      looked r (subst (HasRound s.goal lines) is says.round) (subst (λ o. IfSome o (λ r. IfSome r.tally (λ t. IsTally r.plan.value t))) is state.tallied)
       (subst (λ o. IfSome o (λ r. IsRegister s.book)) is state.registered) before looks
 
   reviewed : (found : Option Kind) → kind_before s.phase (review_in x) ≡ found →
@@ -402,7 +402,7 @@ silent_tally g lines plan pairs (Some t) plan_is pairs_is none h = (
 )
 
 assign_says : (lines : Lines) (s : State) (x : Text) (round : Round) → Says lines s → IsAdmitted lines verb.Assign → verb_in x ≡ verb.Assign → is_review x ≡ false →
-    round.plan ≡ setting_in s → MatchOption round.tally (looks_at_pairs s.goal ≡ false) (λ t. (looks_at_pairs s.goal ≡ true) × IsSilent (setting_in s) (pairs_in s) t) →
+    round.plan.value ≡ setting_in s → MatchOption round.tally (looks_at_pairs s.goal ≡ false) (λ t. (looks_at_pairs s.goal ≡ true) × IsSilent (setting_in s) (pairs_in s) t) →
     Says (lines ++ x ∷ []) (record s { phase = phase.Reviewing; round = Some round })
 assign_says lines s x round h adm e plain plan tally =
     let called = came (has verb.Call lines) adm.called in

@@ -72,10 +72,10 @@ pub record HoldsPairs (s : Setting) (pairs : Pairs) (square : Square) : Type 0 w
 -- what holds of each state
 pub record IsState (s : State) : Type 0 where
   pub placed : All (λ p. (1 ≤ p.1) × (p.1 ≤ clusters_in s)) s.book.placed
-  pub tallied : IfSome s.round (λ r. IfSome r.tally (λ t. IsTally r.plan t))
+  pub tallied : IfSome s.round (λ r. IfSome r.tally (λ t. IsTally r.plan.value t))
   pub tallies : looks_at_pairs s.goal ≡ true → IfSome s.round (λ r. IsSome r.tally)
   pub registered : IfSome s.round (λ r. IsRegister s.book)
-  pub settled : IfSome s.round (λ r. denominator r.plan ≡ denominator_of s.book)
+  pub settled : IfSome s.round (λ r. denominator r.plan.value ≡ denominator_of s.book)
   pub opening : s.phase ≡ phase.Opening → s.round ≡ None
   pub assigned : s.phase ≢ phase.Opening → IsSome s.round
   pub some : s.phase ≢ phase.Opening → 1 ≤ denominator_of s.book
@@ -157,7 +157,7 @@ pub record IsSilent (s : Setting) (pairs : Pairs) (t : DeskTotals) : Type 0 wher
 
 -- a round that begins: a goal that looks at the pairs has their tally
 pub record IsSilentRound (s : State) (r : Round) : Type 0 where
-  pub plan : r.plan ≡ setting_in s
+  pub plan : r.plan.value ≡ setting_in s
   pub tally : MatchOption r.tally (looks_at_pairs s.goal ≡ false)
       (λ t. (looks_at_pairs s.goal ≡ true) × IsSilent (setting_in s) (pairs_in s) t)
 
@@ -204,7 +204,7 @@ IsOfPairs Halt.Short = Unit {0}
 
 -- the reviews of these pairs of a setting begin
 pub record BeginsReviews (s : Setting) (pairs : Pairs) (r : Round) : Type 0 where
-  pub plan : r.plan ≡ s
+  pub plan : r.plan.value ≡ s
   pub silent : IsSomeAnd r.tally (λ t. IsSilent s pairs t × IsTally s t)
 
 -- why no assignment of a setting begins that is looked for: there is none, or memory is wanting
@@ -272,9 +272,9 @@ pub record IsTallyAfter (plan : Setting) (old new : DeskTotals) (line : ReviewLi
 
 -- the round after a review line: without a tally it stays
 pub record IsRoundAfter (old new : Round) (line : ReviewLine) : Type 0 where
-  pub plan : new.plan ≡ old.plan
+  pub plan : new.plan.value ≡ old.plan.value
   pub tally : MatchOption old.tally (new.tally ≡ None)
-      (λ before. IsSomeAnd new.tally (λ after. IsTallyAfter old.plan before after line))
+      (λ before. IsSomeAnd new.tally (λ after. IsTallyAfter old.plan.value before after line))
 
 -- whether names are those of a person and of an applicant on record
 abbrev pub are_known : Register → Option Text → Option Text → Bool
@@ -283,7 +283,7 @@ are_known reg person proposal =
 
 -- the kind, if any, under which a round sets a line aside: by its desk, or where it has none as unassigned
 abbrev pub kind_at : Register → Round → ReviewLine → Option Kind
-kind_at reg r line = option_map_or (λ t. kind_among r.plan (cell t.desk.pairs) line) r.tally
+kind_at reg r line = option_map_or (λ t. kind_among r.plan.value (cell t.desk.pairs) line) r.tally
     (if are_known reg line.reviewer line.proposal then Some kind.Unassigned else Some kind.Unknown)
 
 -- the counts after a line of a kind, or of none
@@ -315,7 +315,7 @@ pub record IsTallyOf (lines : Lines) (t : DeskTotals) : Type 0 where
 -- The round is what these lines say for a goal.
 pub record IsRoundOf (g : Goal) (lines : Lines) (r : Round) : Type 0 where
   pub fixed : has verb.Assign lines ≡ true
-  pub plan : r.plan ≡ setting lines
+  pub plan : r.plan.value ≡ setting lines
   pub tally : MatchOption r.tally (looks_at_pairs g ≡ false) (λ t. (looks_at_pairs g ≡ true) × IsTallyOf lines t)
 
 -- The state is what these lines say for its goal, none of which ends the run.

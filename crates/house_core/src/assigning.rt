@@ -1,6 +1,6 @@
 //! The assignment with which the reviews begin.
 
-ghost use Rattle.std.specs.Prelude.{◌≡◌, ◌≢◌, ◌≤◌, None, OnOk, OnErr, IfOk, IfErr, IfSome, IsTrue, true, false, length};
+ghost use Rattle.std.specs.Prelude.{◌≡◌, ◌≢◌, ◌≤◌, None, OnOk, OnErr, IfOk, IfErr, IfSome, IsTrue, true};
 ghost use Rattle.house_base.specs.Grid.{cell};
 ghost use Rattle.house_base.specs.Setting.{size};
 ghost use Rattle.house_model.specs.declared.command.Command.TheVariants as command;
@@ -10,8 +10,6 @@ ghost use Rattle.house_model.specs.Naming.{HasNamesOf};
 ghost use Rattle.house_model.specs.Profile.{denominator, is_valid};
 ghost use Rattle.house_model.specs.Register.{IsRegister, name_pair};
 ghost use Rattle.house_model.specs.Said.{denominator_of};
-ghost use Rattle.house_model.specs.Shortage.{IsShortage, assignment_demand};
-ghost use Rattle.cut_gap.specs.Cut.{marked};
 ghost use Rattle.seat_quota.specs.Tally.{IsTally};
 ghost use Rattle.house_core.specs.Standing.{BeginsReviews, IsOfInvalid, IsOfNone, IsSilentRound, IsState};
 ghost use Rattle.house_core.specs.Standing.{Obeys, StopsAt, own_halt};
@@ -20,7 +18,6 @@ ghost use Rattle.house_core.specs.Stops.{stop_of_freeze};
 use crate::round::{Round, Shortage, Stop};
 use crate::state::State;
 use cluster_draw::{FreezeFault, freeze};
-use cut_gap::Cut;
 use first_assign::{First, GivenFault, first, given, shortage};
 use house_base::{Grid, Memory, Phase, Plan, Reason};
 use house_model::Goal;
@@ -55,10 +52,10 @@ impl State {
         ensures ok { OnOk result (own_halt self.now command.Assign ≡ None) }
         ensures begins { IfOk result (IsSilentRound self.now) }
         ensures err { IfErr result (λ stop. StopsAt self.now command.Assign stop) }
-        ensures tally { IfOk result (λ round. IfSome round.tally (λ tally. IsTally round.plan tally)) }
+        ensures tally { IfOk result (λ round. IfSome round.tally (λ tally. IsTally round.plan.value tally)) }
         ensures registered { OnOk result (IsRegister self.now.book) }
         ensures some { OnOk result (1 ≤ denominator_of self.now.book) }
-        ensures settled { IfOk result (λ round. denominator round.plan ≡ denominator_of self.now.book) }
+        ensures settled { IfOk result (λ round. denominator round.plan.value ≡ denominator_of self.now.book) }
     {
         let Some(call) = self.call else {
             unreachable!();
@@ -66,6 +63,10 @@ impl State {
         let plan = match freeze(alloc, &self.book, call, self.seed) {
             Ok(plan) => plan,
             Err(fault) => return Err(stop_of_freeze(fault)),
+        };
+        let plan = match Box::new(alloc, plan) {
+            Ok(plan) => plan,
+            Err(_) => return Err(Stop::Memory),
         };
         if !looks_at_pairs(self.goal) {
             settled(alloc, plan)
@@ -85,39 +86,39 @@ fn looks_at_pairs(goal: Goal) -> bool
 }
 
 /// Begins without points where some assignment is valid.
-fn settled(alloc: Global, plan: Plan) -> Result<Round, Stop>
-    ensures plan { IfOk result (λ round. round.plan ≡ plan) }
+fn settled(alloc: Global, plan: Box<Plan>) -> Result<Round, Stop>
+    ensures plan { IfOk result (λ round. round.plan.value ≡ plan.value) }
     ensures tally { IfOk result (λ round. round.tally ≡ None) }
-    ensures some { OnOk result (has_assignment plan ≡ true) }
-    ensures err { IfErr result (λ stop. IsOfNone plan stop) }
+    ensures some { OnOk result (has_assignment plan.value ≡ true) }
+    ensures err { IfErr result (λ stop. IsOfNone plan.value stop) }
 {
-    match shortage(alloc, &plan) {
+    match shortage(alloc, &*plan) {
         Ok(None) => Ok(Round { plan, tally: None }),
-        Ok(Some(cut)) => Err(short(alloc, plan, cut)),
+        Ok(Some(cut)) => Err(Stop::Short(Shortage { plan, cut })),
         Err(Memory) => Err(Stop::Memory),
     }
 }
 
 /// Begins the reviews of the first assignment.
-fn computed(alloc: Global, plan: Plan) -> Result<Round, Stop>
-    ensures begins { IfOk result (BeginsReviews plan (first_assignment plan)) }
-    ensures some { OnOk result (has_assignment plan ≡ true) }
-    ensures err { IfErr result (λ stop. IsOfNone plan stop) }
+fn computed(alloc: Global, plan: Box<Plan>) -> Result<Round, Stop>
+    ensures begins { IfOk result (BeginsReviews plan.value (first_assignment plan.value)) }
+    ensures some { OnOk result (has_assignment plan.value ≡ true) }
+    ensures err { IfErr result (λ stop. IsOfNone plan.value stop) }
 {
-    match first(alloc, &plan) {
+    match first(alloc, &*plan) {
         Ok(First::Pairs(pairs)) => begun(alloc, plan, pairs),
-        Ok(First::Short(cut)) => Err(short(alloc, plan, cut)),
+        Ok(First::Short(cut)) => Err(Stop::Short(Shortage { plan, cut })),
         Err(Memory) => Err(Stop::Memory),
     }
 }
 
 /// Begins the reviews of the assignment that was made by hand, where it is valid.
-fn checked(alloc: Global, plan: Plan, book: &Book) -> Result<Round, Stop>
-    requires names { HasNamesOf book.now.applicants plan }
-    ensures begins { IfOk result (BeginsReviews plan (name_pair book.now.pairs plan)) }
-    ensures err { IfErr result (λ stop. IsOfInvalid plan (name_pair book.now.pairs plan) stop) }
+fn checked(alloc: Global, plan: Box<Plan>, book: &Book) -> Result<Round, Stop>
+    requires names { HasNamesOf book.now.applicants plan.value }
+    ensures begins { IfOk result (BeginsReviews plan.value (name_pair book.now.pairs plan.value)) }
+    ensures err { IfErr result (λ stop. IsOfInvalid plan.value (name_pair book.now.pairs plan.value) stop) }
 {
-    match given(alloc, &plan, book) {
+    match given(alloc, &*plan, book) {
         Ok(pairs) => begun(alloc, plan, pairs),
         Err(GivenFault::Invalid) => Err(Stop::Refused(Reason::Invalid)),
         Err(GivenFault::Memory) => Err(Stop::Memory),
@@ -125,32 +126,18 @@ fn checked(alloc: Global, plan: Plan, book: &Book) -> Result<Round, Stop>
 }
 
 /// Begins the reviews of these pairs.
-fn begun(alloc: Global, plan: Plan, pairs: Grid) -> Result<Round, Stop>
-    requires side { pairs.side ≡ size plan }
-    requires valid { IsTrue (is_valid plan (cell pairs)) }
-    ensures begins { IfOk result (BeginsReviews plan (cell pairs)) }
+fn begun(alloc: Global, plan: Box<Plan>, pairs: Grid) -> Result<Round, Stop>
+    requires side { pairs.side ≡ size plan.value }
+    requires valid { IsTrue (is_valid plan.value (cell pairs)) }
+    ensures begins { IfOk result (BeginsReviews plan.value (cell pairs)) }
     ensures err { OnErr result (result ≡ Err Stop.Memory) }
 {
-    match Tally::set_up(alloc, &plan, pairs) {
+    match Tally::set_up(alloc, &*plan, pairs) {
         Ok(tally) => Ok(Round {
             plan,
             tally: Some(tally),
         }),
         Err(Memory) => Err(Stop::Memory),
-    }
-}
-
-/// The stop for the want of a valid assignment, as a cut shows it; or for that of memory.
-fn short(alloc: Global, plan: Plan, cut: Cut) -> Stop
-    requires none { has_assignment plan ≡ false }
-    requires reviewers { length cut.reviewers ≡ size plan }
-    requires proposals { length cut.proposals ≡ size plan }
-    requires printed { IsShortage (assignment_demand plan) (marked cut.reviewers) (marked cut.proposals) }
-    ensures { IsOfNone plan result }
-{
-    match Box::new(alloc, plan) {
-        Ok(plan) => Stop::Short(Shortage { plan, cut }),
-        Err(_) => Stop::Memory,
     }
 }
 

@@ -21,8 +21,9 @@ use crate::round::{Shortage, Stop};
 use crate::state::State;
 use crate::step::{EndFault, Step};
 use call_outcome::outcome_of;
+use command_text::is_blank_at_once;
 use cut_gap::Cut;
-use house_base::{Asides, Memory, Phase, Plan, Reason};
+use house_base::{Asides, Memory, Phase, Plan, Reason, Took};
 use house_model::Goal;
 use report_text::Outcome;
 use review_desk::Desk;
@@ -90,6 +91,28 @@ impl House {
         if let Some(stop) = &self.stop {
             return step_of(self.lines, stop);
         }
+        if is_blank_at_once(line) {
+            self.lines = self.lines.saturating_add(1);
+            return Step::Going(Took::Kept);
+        }
+        self.take(line)
+    }
+
+    /// Takes the next line, of a run that goes on. No blank line is to pay for the locals of what it may come to.
+    #[inline(never)]
+    fn take(&mut self, line: &[u8]) -> Step
+        requires going { self.old.stop ≡ None }
+        ensures step { (g : Goal) (lines : Lines) → StandsFor g lines self.old → length lines < 2 ^ 64 - 1 →
+            IsStep (stop_of (halt g) (lines ++ line.now ∷ [])) (took_of g lines line.now) result }
+        ensures stands { (g : Goal) (lines : Lines) → StandsFor g lines self.old → length lines < 2 ^ 64 - 1 →
+            result ≢ Step.Memory → StandsFor g (lines ++ line.now ∷ []) self.new }
+        ensures memory { (g : Goal) (lines : Lines) → StandsFor g lines self.old → result ≡ Step.Memory →
+            MayLack g lines line.now }
+        ensures stops { ¬ IsGoing result → IsSome self.new.stop }
+        ensures stays { ¬ IsGoing result → IfSome self.new.stop (λ stop. stopped_step self.new.lines stop ≡ result) }
+        ensures none_assigned { self.old.state.phase ≢ Phase.Opening → result ≢ Step.Memory }
+        ensures none_by_review { (is_blank line.now || is_review line.now) ≡ true → IsGoing result }
+    {
         match self.state.take(self.alloc, line) {
             Ok(took) => {
                 self.lines = self.lines.saturating_add(1);
@@ -131,7 +154,7 @@ impl House {
         };
         match outcome_of(
             self.alloc,
-            &round.plan,
+            &*round.plan,
             tally.totals(),
             self.state.asides,
             self.state.draw,
@@ -186,7 +209,7 @@ impl House {
             return Some(&*shortage.plan);
         }
         match &self.state.round {
-            Some(round) => Some(&round.plan),
+            Some(round) => Some(&*round.plan),
             None => None,
         }
     }

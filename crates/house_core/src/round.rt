@@ -11,10 +11,11 @@ use house_base::{Kind, Plan, Reason, ReviewLine, Took};
 use register_book::Book;
 use seat_quota::Tally;
 
-/// An accepted assignment: the setting, and the points that are given, where the goal looks at the pairs.
+/// An accepted assignment: the setting, and the points that are given, where the goal looks at the pairs. The plan is in
+/// a box, since it is large, and a run is moved as a whole.
 #[derive(Drop)]
 pub struct Round {
-    pub plan: Plan,
+    pub plan: Box<Plan>,
     pub tally: Option<Tally>,
 }
 
@@ -37,13 +38,13 @@ pub enum Stop {
 impl Round {
     /// Takes a whole review line while reviews are taken.
     pub fn review(&mut self, book: &Book, line: &ReviewLine) -> Took
-        requires { IfSome self.old.tally (λ tally. IsTally self.old.plan tally) }
+        requires { IfSome self.old.tally (λ tally. IsTally self.old.plan.value tally) }
         ensures after { IsRoundAfter self.old self.new line.now }
         ensures took { result ≡ took_as (kind_at book.now self.old line.now) }
-        ensures tally { IfSome self.new.tally (λ tally. IsTally self.new.plan tally) }
+        ensures tally { IfSome self.new.tally (λ tally. IsTally self.new.plan.value tally) }
     {
         match &mut self.tally {
-            Some(tally) => tally.review(&self.plan, line),
+            Some(tally) => tally.review(&*self.plan, line),
             None => Took::Aside(unassigned(book, line)),
         }
     }

@@ -1,10 +1,11 @@
 -- Bytes in pieces, with one feed more.
-use Rattle.std.proofs.Common.{◌≡◌, ℕ, ◌+◌, ◌<◌, ◌≤◌, Bool, true, false, List, [], ◌∷◌, ◌++◌, length, take, Option, Some, None, refl, sym, ap, ◌∙◌, subst, arith, append-nil, append_assoc, length-append, length-take}
+use Rattle.std.proofs.Common.{◌≡◌, ℕ, ◌+◌, ◌<◌, ◌≤◌, Bool, true, false, List, [], ◌∷◌, ◌++◌, length, take, Option, Some, None, refl, sym, ap, ◌∙◌, arith, append-nil, append_assoc, length-append, length-take}
+use Rattle.std.specs.Prelude.{if◌then◌else◌}
 use Rattle.std.specs.Option.{option_to_list}
 use Rattle.command_text.specs.Cutting.{Cutting, Feeding, Feeds, AreFed, fresh, last_after, used_bytes, ended_lines, ended_line, rest_of}
 use Rattle.command_text.proofs.CuttingLemmas.{feeds_give_lines, feeds_give_whole_lines}
 use Rattle.house_model.specs.Heard.{whole_lines}
-use Rattle.house_model.specs.Text.{Text, lines}
+use Rattle.house_model.specs.Text.{Text, is_empty, lines, without_return}
 use Rattle.house_top.specs.Hearing.{IsCut}
 
 fed_more : (before : Cutting) (fs : List Feeding) (f : Feeding) → AreFed before fs → Feeds (last_after before fs) f.piece f.used f.whole f.after → AreFed before (fs ++ f ∷ [])
@@ -26,6 +27,25 @@ ended_more (x ∷ fs) f = ap (λ ls. option_to_list (ended_line x.after) ++ ls) 
 pub cut-none : IsCut [] fresh
 cut-none = record { feeds = []; are_fed = tt; used = refl; left = refl }
 
+-- a feed looks at nothing but what has begun
+feeds_same : (held before : Cutting) (piece : Text) (used : ℕ) (whole : Bool) (after : Cutting) → held.begun ≡ before.begun → Feeds before piece used whole after → Feeds held piece used whole after
+feeds_same held before piece used true after same feeds = record {
+  front = feeds.front;
+  front_has_no_feed = feeds.front_has_no_feed;
+  used_is = feeds.used_is;
+  front_is = feeds.front_is;
+  after_is = feeds.after_is ∙ ap (λ b. record { begun = []; ended = Some (b ++ feeds.front) }) (sym same);
+}
+feeds_same held before piece used false after same feeds = record {
+  has_no_feed = feeds.has_no_feed;
+  used_is = feeds.used_is;
+  after_is = feeds.after_is ∙ ap (λ b. record { begun = b ++ piece; ended = None }) (sym same);
+}
+
+-- where as much has begun, as much was cut
+pub cut-same : (bytes : Text) (after before : Cutting) → after.begun ≡ before.begun → IsCut bytes after → IsCut bytes before
+cut-same bytes after before same cut = record { feeds = cut.feeds; are_fed = cut.are_fed; used = cut.used; left = cut.left ∙ same }
+
 abbrev feed_of : Text → ℕ → Bool → Cutting → Feeding
 feed_of piece used whole after = record { piece = piece; used = used; whole = whole; after = after }
 
@@ -34,9 +54,9 @@ cut-more bytes piece before after used whole cut feeds =
     let f = feed_of piece used whole after in
     record {
       feeds = cut.feeds ++ f ∷ [];
-      are_fed = fed_more fresh cut.feeds f cut.are_fed (subst (λ c. Feeds c piece used whole after) (sym cut.left) feeds);
+      are_fed = fed_more fresh cut.feeds f cut.are_fed (feeds_same (last_after fresh cut.feeds) before piece used whole after cut.left feeds);
       used = used_more cut.feeds f ∙ ap (λ t. t ++ take used piece) cut.used;
-      left = last_of_more fresh cut.feeds f;
+      left = ap (λ c. c.begun) (last_of_more fresh cut.feeds f);
     }
 
 -- the lines that end in bytes, with one feed more
@@ -54,7 +74,7 @@ pub lines-cut : (bytes : Text) (cutting : Cutting) → IsCut bytes cutting → l
 lines-cut bytes cutting cut =
     ap lines (sym cut.used) ∙ sym (feeds_give_lines cut.feeds cut.are_fed)
     ∙ ap (λ ls. ls ++ option_to_list (rest_of (last_after fresh cut.feeds))) (feeds_give_whole_lines cut.feeds cut.are_fed ∙ ap whole_lines cut.used)
-    ∙ ap (λ c. whole_lines bytes ++ option_to_list (rest_of c)) cut.left
+    ∙ ap (λ b. whole_lines bytes ++ option_to_list (if is_empty b then None else Some (without_return b))) cut.left
 
 pub rest-le : (rest : Option Text) → length (option_to_list rest) ≤ 1
 rest-le None = omega arith

@@ -4,7 +4,7 @@ use Rattle.std.specs.Option.{option_to_list}
 use Rattle.std.proofs.lemmas.List.Elements.{All-nil}
 use Rattle.std.proofs.lemmas.Grind.{common_steps}
 use Rattle.std.proofs.lemmas.List.{take-append-drop}
-use Rattle.command_text.specs.Cutting.{Cutting, Feeds, fresh, ended_line, rest_of}
+use Rattle.command_text.specs.Cutting.{Cutting, Feeds, IsWholeLine, fresh, ended_line, rest_of}
 use Rattle.command_text.proofs.FeedLemmas.{lines_of_none, whole_lines_of_part}
 use Rattle.house_base.specs.declared.answer.Reason.{Reason}
 use Rattle.house_base.specs.declared.answer.Took.{Took}
@@ -26,7 +26,7 @@ use Rattle.house_top.specs.declared.hearing.Hearing.{Hearing}
 use Rattle.house_top.specs.declared.hearing.Progress.{Progress}
 use Rattle.house_top.specs.declared.hearing.Progress.TheVariants as progress
 use Rattle.house_top.specs.Hearing.{Advances, EndsWith, GoOn, HasEnded, HasHeard, HasLines, HearsPiece, IsCut, IsFull, TakesLine, TellsEnd}
-use Rattle.house_top.proofs.CutLemmas.{cut-none, cut-more, whole-more, lines-cut, rest-le, used_within, none_begun}
+use Rattle.house_top.proofs.CutLemmas.{cut-none, cut-same, cut-more, whole-more, lines-cut, rest-le, used_within, none_begun}
 use Rattle.house_top.proofs.EndLemmas.{ends_by_goal, ends_by_stop, looked-all, looked-more, stopped_before}
 use Rattle.house_top.proofs.LineLemmas.{is_feed}
 use Rattle.house_top.proofs.FrontLemmas.{whole-few, within-from, within-limits}
@@ -176,6 +176,32 @@ line_heard g heard piece old cutter used whole line p house hears feeds ended ro
         record { lines = record { stands = ends.stands; few = whole-few (heard ++ take used piece) within; looked = ends.looked; clear = ends.clear }; ends = ends.ends; within = within }
     by_progress progress.Over takes = takes
     by_progress progress.Memory takes = tt
+
+-- where as much has begun, as much was heard
+same_heard : (g : Goal) (bytes : Text) (p : Progress) (h : Hearing) (cutter : Cutting) → h.cutter.begun ≡ cutter.begun → Advances g bytes p h → Advances g bytes p (record h { cutter = cutter })
+same_heard g bytes progress.Going h cutter same hears = record {
+  goal = hears.goal;
+  stands = hears.stands;
+  cut = cut-same bytes h.cutter cutter same hears.cut;
+  go_on = hears.go_on;
+  bytes_counted = hears.bytes_counted;
+  lines_counted = hears.lines_counted;
+  within = hears.within;
+}
+same_heard g bytes progress.Ended h cutter same hears = hears
+same_heard g bytes progress.Over h cutter same hears = hears
+same_heard g bytes progress.Memory h cutter same hears = tt
+
+-- a line more that stands whole in a piece
+pub whole_line_heard : (g : Goal) (heard piece : Text) (old : Hearing) (used : ℕ) (line : Text) (p : Progress) (house : Standing) → HasHeard g heard old →
+    IsWholeLine old.cutter piece used line → old.bytes + length piece ≤ MOST_BYTES → old.lines < MOST_LINES → TakesLine g (whole_lines heard ++ line ∷ []) p house →
+    Advances g (heard ++ take used piece) p (record { goal = old.goal; house = house; cutter = old.cutter; bytes = old.bytes + used; lines = old.lines + 1 })
+whole_line_heard g heard piece old used line p house hears (after, ends, ended, same) room few takes =
+    same_heard g (heard ++ take used piece) p (record { goal = old.goal; house = house; cutter = after; bytes = old.bytes + used; lines = old.lines + 1 }) old.cutter same
+    (line_heard g heard piece old after used true line p house hears ends ended room few takes)
+
+pub whole_line_within : (old : Cutting) (piece : Text) (used : ℕ) (line : Text) → IsWholeLine old piece used line → used ≤ length piece
+whole_line_within old piece used line (after, ends, ended, same) = used_within old piece used true after ends
 
 -- one more part of a piece
 pub advanced : (piece front rest part : Text) (used most : ℕ) → piece ≡ front ++ rest → part ≡ take most rest → used ≤ length part → piece ≡ (front ++ take used part) ++ drop used rest

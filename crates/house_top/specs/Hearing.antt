@@ -17,12 +17,12 @@ use Rattle.house_top.specs.declared.hearing.Progress.TheVariants as progress
 use Rattle.house_top.specs.declared.input.Heard.{Heard}
 use Rattle.house_top.specs.declared.input.Heard.TheVariants as heard
 
--- bytes in whatever pieces, and what their feeds have left
+-- bytes in whatever pieces, and what their feeds have left as begun
 pub record IsCut (bytes : Text) (cutting : Cutting) : Type 0 where
   pub feeds : List Feeding
   pub are_fed : AreFed fresh feeds
   pub used : used_bytes feeds ≡ bytes
-  pub left : last_after fresh feeds ≡ cutting
+  pub left : (last_after fresh feeds).begun ≡ cutting.begun
 
 -- no line of these ends a run
 pub record GoOn (g : Goal) (lines : Lines) : Type 0 where

@@ -81,6 +81,11 @@ impl Hearing {
         ensures advances { (g : Goal) (heard : List ℕ) → HasHeard g heard self.old →
             Advances g (heard ++ take result.0 piece.now) result.1 self.new }
     {
+        if let Some((line, used)) = self.cutter.whole_line(piece) {
+            self.bytes += used;
+            self.lines += 1;
+            return (used, take_line(self.goal, &mut self.house, line));
+        }
         let Ok(fed) = self.cutter.feed(piece) else {
             return (0, Progress::Memory);
         };

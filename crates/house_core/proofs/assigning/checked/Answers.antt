@@ -4,4 +4,4 @@ use Rattle.house_model.proofs.SameLemmas.{is_valid-same}
 use Rattle.house_core.proofs.assigning.checked.Goals as goal
 
 pub begun-requires-clause-valid : goal.begun-requires-clause-valid
-begun-requires-clause-valid c = is_valid-same c.args.plan (cell c.in-Ok.pairs) _ c.in-Ok.ensures.pairs ∙ c.in-Ok.ensures.valid
+begun-requires-clause-valid c = rw (← c.deref.ensures) (is_valid-same c.deref.result.now (cell c.in-Ok.pairs) _ c.in-Ok.ensures.pairs ∙ c.in-Ok.ensures.valid)

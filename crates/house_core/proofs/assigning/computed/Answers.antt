@@ -5,4 +5,4 @@ use Rattle.house_core.proofs.assigning.computed.Goals as goal
 
 pub returns-in-Ok-Pairs-clause-begins : goal.returns-in-Ok-Pairs-clause-begins
 returns-in-Ok-Pairs-clause-begins c =
-    begins_as c.args.plan (cell c.in-Ok-Pairs.pairs) (first_assignment c.args.plan) c.begun.result (rw c.in-Ok-Pairs.field-0-is at c.in-Ok-Pairs.ensures.value) c.begun.ensures.begins
+    begins_as c.args.plan.value (cell c.in-Ok-Pairs.pairs) (first_assignment c.args.plan.value) c.begun.result (rw (c.in-Ok-Pairs.field-0-is, c.deref.ensures) at c.in-Ok-Pairs.ensures.value) c.begun.ensures.begins

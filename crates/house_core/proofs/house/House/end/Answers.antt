@@ -34,4 +34,4 @@ returns-in-Ok-clause-ends c = λ g lines is few.
     let state = c.self.invariant.0 in
     let held = tally_of _ round tally state c.in-Some-round.is c.in-Some-tally.is in
     end_done g lines _ here c.in_default.is few round tally c.in-Ok.outcome state (asked _ _ c.self.view_is c.requires) c.if-is_none.ensures (sym c.if-not-is_drawn.ensures) c.in-Some-round.is c.in-Some-tally.is
-    (c.in-Ok.ensures (cell tally.desk.pairs) (points_at tally.desk) (record { setting = held.desk.setting; valid = held.desk.valid }) (rw c.totals.ensures held.agree))
+    (rw c.deref.ensures at (c.in-Ok.ensures (cell tally.desk.pairs) (points_at tally.desk) (record { setting = rw c.deref.ensures held.desk.setting; valid = rw c.deref.ensures held.desk.valid }) (rw (c.totals.ensures, c.deref.ensures) held.agree)))

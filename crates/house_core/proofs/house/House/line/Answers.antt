@@ -1,6 +1,8 @@
-use Rattle.std.proofs.Common.{sym, ap, ◌∙◌, Err, inr}
+use Rattle.std.proofs.Common.{sym, ap, ◌∙◌, refl}
 use Rattle.house_core.specs.House.{Standing}
-use Rattle.house_core.proofs.HouseLemmas.{own_goal, going_says, halts_by, stands_more, step_going, stands_stopped, step_stopped, stands_stop, step_stop, not_memory, memory_step}
+use Rattle.house_core.proofs.HouseLemmas.{own_goal, going_says, stands_more, step_going, stands_stopped, step_stopped}
+use Rattle.house_core.proofs.RefusalLemmas.{blank_goes_on}
+use Rattle.house_core.proofs.SaysLemmas.{blank_kept, blank_says}
 use Rattle.house_core.proofs.house.House.line.Goals as goal
 
 pub returns-in-Some-clause-step : goal.returns-in-Some-clause-step
@@ -12,37 +14,16 @@ pub returns-in-Some-clause-stands : goal.returns-in-Some-clause-stands
 returns-in-Some-clause-stands c = λ g lines is few never.
     stands_stopped g lines c.args.line.now c.args.self.now _ is (ap (λ (h : Standing). h.stop) (sym c.self.view_is) ∙ c.in-Some.is)
 
-pub returns-in-Ok-clause-step : goal.returns-in-Ok-clause-step
-returns-in-Ok-clause-step c = λ g lines is few.
+pub returns-then-is_blank_at_once-clause-step : goal.returns-then-is_blank_at_once-clause-step
+returns-then-is_blank_at_once-clause-step c = λ g lines is few.
     let here = rw (← c.self.view_is) at is in
-    let says = going_says g lines _ here c.in_default.is in
-    rw (← here.goal) (step_going _ lines c.args.line.now _ (own_goal g lines _ here) c.in_default.is _ _ (c.in-Ok.ensures.ok lines says) (c.in-Ok.ensures.took lines says))
+    let blank = c.is_blank_at_once.ensures.blank c.if-is_blank_at_once.true in
+    rw (← here.goal) (step_going _ lines c.args.line.now _ (own_goal g lines _ here) c.in_default.is _ _ (blank_goes_on _ lines _ blank) (blank_kept _ lines _ blank))
 
-pub returns-in-Ok-clause-stands : goal.returns-in-Ok-clause-stands
-returns-in-Ok-clause-stands c = λ g lines is few never.
+pub returns-then-is_blank_at_once-clause-stands : goal.returns-then-is_blank_at_once-clause-stands
+returns-then-is_blank_at_once-clause-stands c = λ g lines is few never.
     let here = rw (← c.self.view_is) at is in
     let says = going_says g lines _ here c.in_default.is in
+    let blank = c.is_blank_at_once.ensures.blank c.if-is_blank_at_once.true in
     rw (← here.goal, c.saturating_add-self-inside.ensures, c.in_default.is)
-    (stands_more _ lines c.args.line.now _ (own_goal g lines _ here) c.in_default.is _ c.in-Ok.ensures.goal few (c.in-Ok.ensures.ok lines says) (c.in-Ok.ensures.says lines says))
-
-pub returns-in-Err-clause-step : goal.returns-in-Err-clause-step
-returns-in-Err-clause-step c = λ g lines is few.
-    let here = rw (← c.self.view_is) at is in
-    let says = going_says g lines _ here c.in_default.is in
-    let why = halts_by c.in-Err.stop _ (λ r e. c.in-Err.ensures.refused lines says r (ap Err e)) (λ x e. c.in-Err.ensures.short lines says x (ap Err e)) in
-    rw (← here.goal, c.step_of-step.ensures) (step_stop _ lines c.args.line.now _ (own_goal g lines _ here) c.in_default.is c.in-Err.stop _ few why)
-
-pub returns-in-Err-clause-stands : goal.returns-in-Err-clause-stands
-returns-in-Err-clause-stands c = λ g lines is few never.
-    let here = rw (← c.self.view_is) at is in
-    let says = going_says g lines _ here c.in_default.is in
-    let why = halts_by c.in-Err.stop _ (λ r e. c.in-Err.ensures.refused lines says r (ap Err e)) (λ x e. c.in-Err.ensures.short lines says x (ap Err e)) in
-    rw (← here.goal, c.in-Err.ensures.err) (stands_stop _ lines c.args.line.now _ (own_goal g lines _ here) c.in_default.is c.in-Err.stop
-    (not_memory c.in-Err.stop c.self.inside.lines (rw c.step_of-step.ensures at never)) why)
-
-pub returns-in-Err-clause-memory : goal.returns-in-Err-clause-memory
-returns-in-Err-clause-memory c = λ g lines is e.
-    let here = rw (← c.self.view_is) at is in
-    let says = going_says g lines _ here c.in_default.is in
-    let lacking = memory_step c.self.inside.lines c.in-Err.stop (sym c.step_of-step.ensures ∙ e) in
-    rw (← here.goal) (inr (c.in-Err.ensures.memory lines says (ap Err lacking)))
+    (stands_more _ lines c.args.line.now _ (own_goal g lines _ here) c.in_default.is _ refl few (blank_goes_on _ lines _ blank) (blank_says lines _ _ says blank))

@@ -1,9 +1,9 @@
-use Rattle.std.proofs.Common.{◌≡◌, ◌≢◌, ℕ, ◌+◌, ◌<◌, ◌≤◌, true, false, not, cond, eqb, ltb, List, [], ◌∷◌, ◌++◌, length, get_or, take, AllPairs, Some, None, position, is_some, bytes_eq, refl, sym, ap, ◌∙◌, subst, inl, inr, arith}
+use Rattle.std.proofs.Common.{◌≡◌, ◌≢◌, ℕ, zero, suc, ◌+◌, ◌<◌, ◌≤◌, true, false, not, cond, eqb, ltb, List, [], ◌∷◌, ◌++◌, length, get_or, take, AllPairs, Some, None, position, is_some, bytes_eq, refl, sym, ap, ◌∙◌, subst, inl, inr, arith}
 use Rattle.std.specs.List.{position_or_len, prefix_len, slice_get}
 use Rattle.std.specs.BTreeMap.{BTreeMap, get}
 use Rattle.std.specs.Cmp.Lexicographic.{slice_cmp, texts_ties}
 use Rattle.std.specs.Ordering.{nat_cmp, is_eq}
-use Rattle.std.proofs.lemmas.Bool.{cases_Bool, cases_lt, cond-true, cond-false, cond_both, false≢true, lt-ltb, le-ltb, eq-eqb, ne_eqb, not-true}
+use Rattle.std.proofs.lemmas.Bool.{cases_Bool, cases_lt, cases_eq, cond-true, cond-false, cond_both, false≢true, lt-ltb, le-ltb, eq-eqb, ne_eqb, not-true}
 use Rattle.std.proofs.lemmas.List.{length_push, length-take, get_or_push, get_or-take, get_or_append_left}
 use Rattle.std.proofs.lemmas.List.Folds.{prefix_len-append, position_or_len_push}
 use Rattle.std.proofs.lemmas.List.Quantifiers.{all_pairs_push}
@@ -14,6 +14,7 @@ use Rattle.house_model.specs.Text.{Text}
 use Rattle.house_model.specs.Register.{among}
 use Rattle.house_model.proofs.InOrderLemmas.{In, In-get_or, In-Contains}
 use Rattle.house_model.proofs.GroupLemmas.{same_text, bytes_eq-same, bytes_eq-other, cases_text, among-In, In-among, not_among, not_In}
+use Rattle.name_index.specs.Hints.{HaveHints, digest_of, hint_for}
 use Rattle.name_index.specs.Index.{IsIndex, number_in}
 
 -- The number of a text among others.
@@ -210,3 +211,56 @@ among-before xs i t differ at = not_among (take i xs) t (λ m.
     let before : c.0 < i = omega (arith, c.1, length-take i xs) in
     differ c.0 i t before (slice_get_within xs i t at)
     (sym (get_or-take i xs c.0 t before) ∙ (c.2 ∙ sym (get_or_from_slice_get xs i t t at))))
+
+-- Hints.
+
+-- a text whose hint is none, or 0, is not among those that have hints
+pub position-without_hint : (texts : List Text) (hints : List ℕ) (t : Text) → HaveHints texts hints → ((number : ℕ) → hint_for hints t ≡ Some (suc number) → ⊥)
+    → position (bytes_eq t) texts ≡ None
+position-without_hint texts hints t have none = elim (cases_lt (number_in texts t) (length texts)) [
+  | inl below ↦
+      let hint = have (number_in texts t) below in
+      absurd (none hint.0 (ap (hint_for hints) (sym (at-number_in texts t below)) ∙ hint.1))
+  | inr above ↦ position_unknown texts t above
+]
+
+-- hints of one digest are one
+pub hint_for-same : (hints : List ℕ) (a b : Text) → digest_of a ≡ digest_of b → hint_for hints a ≡ hint_for hints b
+hint_for-same hints a b same = ap (slice_get hints) same
+
+-- a further text with a hint, which is put under its digest
+pub HaveHints-push : (texts : List Text) (old new : List ℕ) (t : Text) (hint : ℕ) → HaveHints texts old → 0 < hint → hint_for new t ≡ Some hint
+    → ((other : Text) → digest_of other ≢ digest_of t → hint_for new other ≡ hint_for old other) → HaveHints (texts ++ t ∷ []) new
+HaveHints-push texts old new t zero have some here others i below = absurd (omega arith)
+HaveHints-push texts old new t (suc number) have some here others i below = elim (cases_lt i (length texts)) [
+  | inl before ↦
+      let same : get_or (texts ++ t ∷ []) i [] ≡ get_or texts i [] = get_or_append_left texts (t ∷ []) [] i before in
+      elim (cases_eq (digest_of (get_or texts i [])) (digest_of t)) [
+        | inl one ↦ (number, ap (hint_for new) same ∙ (hint_for-same new (get_or texts i []) t one ∙ here))
+        | inr two ↦ ((have i before).0, ap (hint_for new) same ∙ (others (get_or texts i []) two ∙ (have i before).1))
+      ]
+  | inr last ↦
+      let at : i ≡ length texts = omega (arith, below, last, length_push texts t) in
+      (number, ap (hint_for new) (get_or_push texts t [] i (sym at)) ∙ here)
+]
+
+pub HaveHints-pop : (texts front : List Text) (t : Text) (hints : List ℕ) → HaveHints texts hints → texts ≡ front ++ t ∷ [] → HaveHints front hints
+HaveHints-pop texts front t hints have e i below =
+    let within : i < length texts = omega (arith, below, ap length e, length_push front t) in
+    let hint = have i within in
+    let same : get_or texts i [] ≡ get_or front i [] = ap (λ l. get_or l i []) e ∙ get_or_append_left front (t ∷ []) [] i below in
+    (hint.0, ap (hint_for hints) (sym same) ∙ hint.1)
+
+pub HaveHints-kept : (texts : List Text) (old new : List ℕ) → HaveHints texts old → (0 < length old → new ≡ old) → HaveHints texts new
+HaveHints-kept texts old new have kept i below =
+    let hint = have i below in
+    let some : 0 < length old = omega (arith, slice_get_within old (digest_of (get_or texts i [])) (suc hint.0) hint.1) in
+    (hint.0, ap (λ hints. hint_for hints (get_or texts i [])) (kept some) ∙ hint.1)
+
+-- what stands at the place of a text
+pub position-here : (texts : List Text) (t : Text) (i : ℕ) → position (bytes_eq t) texts ≡ Some i → get_or texts i [] ≡ t
+position-here texts t i at = elim (cases_lt (number_in texts t) (length texts)) [
+  | inl below ↦
+      ap (λ k. get_or texts k []) (same_Some i (number_in texts t) (sym at ∙ position_known texts t below)) ∙ at-number_in texts t below
+  | inr above ↦ absurd (none-some i (sym (position_unknown texts t above) ∙ at))
+]

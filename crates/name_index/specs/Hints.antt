@@ -1,4 +1,4 @@
-use Rattle.std.specs.Prelude.{ℕ, ◌%◌, Option, List, slice_get}
+use Rattle.std.specs.Prelude.{◌≡◌, ℕ, suc, ◌%◌, ◌<◌, Option, Some, List, [], length, slice_get, slice_index_or}
 use Rattle.std.specs.Hash.FoldHasher.{initial, write, finish}
 use Rattle.house_model.specs.Text.{Text}
 use Rattle.name_index.specs.declared.hints.TheConstants.{HINTS}
@@ -10,3 +10,7 @@ digest_of text = finish (write initial text) % HINTS
 -- what hints have for a text: the number under its digest
 abbrev pub hint_for : List ℕ → Text → Option ℕ
 hint_for hints text = slice_get hints (digest_of text)
+
+-- each text has a hint that is not 0
+abbrev pub HaveHints : List Text → List ℕ → Type 0
+HaveHints texts hints = (i : ℕ) → i < length texts → (number : ℕ) × (hint_for hints (slice_index_or texts i []) ≡ Some (suc number))

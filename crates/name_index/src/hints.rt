@@ -1,5 +1,5 @@
-//! Hints at the numbers of names, by a digest of the names. A hint may be missing, or be that of another name of the
-//! same digest: it saves a search where it is right.
+//! Hints at the numbers of names, by a digest of the names. A hint may be that of another name of the same digest: it
+//! saves a search where it is right, and where there is none.
 
 ghost use Rattle.std.specs.Prelude.{◌≡◌, ◌≢◌, ◌<◌, ℕ, List, [], Some, OnOk, length};
 ghost use Rattle.name_index.specs.Hints.{digest_of, hint_for};
@@ -12,7 +12,7 @@ use std::marker::Model;
 /// How many hints there are.
 pub(crate) const HINTS: usize = 8_192;
 
-/// For each digest of a name the number that was put under it last, and 0 where none was. Numbers take two bytes.
+/// For each digest of a name what was put under it last, and 0 where nothing was. Each hint takes two bytes.
 #[derive(Drop)]
 pub(crate) struct Hints {
     numbers: Vec<u16>,
@@ -42,7 +42,7 @@ impl Hints {
     /// Makes room for all hints, the first time.
     pub fn make_room(&mut self) -> Result<(), AllocError>
         ensures room { OnOk result (length self.new ≡ HINTS) }
-        ensures kept { length self.old ≡ HINTS → self.new ≡ self.old }
+        ensures kept { 0 < length self.old → self.new ≡ self.old }
     {
         if self.numbers.is_empty() {
             self.numbers.resize(HINTS, 0)?;

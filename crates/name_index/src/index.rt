@@ -1,6 +1,6 @@
 //! Names with their numbers.
 
-ghost use Rattle.std.specs.Prelude.{◌≡◌, ◌-◌, ◌<◌, ◌≤◌, Some, false, [], ◌∷◌, ◌++◌, is_some, IfSome, OnOk, OnErr, length, position, slice_get, take};
+ghost use Rattle.std.specs.Prelude.{◌≡◌, ◌≢◌, ◌-◌, ◌<◌, ◌≤◌, Some, false, [], ◌∷◌, ◌++◌, is_some, IsTrue, OnOk, OnErr, length, position, slice_get, take};
 ghost use Rattle.std.specs.Str.{bytes_eq};
 ghost use Rattle.house_model.specs.Register.{among};
 
@@ -21,13 +21,14 @@ pub struct NameIndex {
 
 impl Model for NameIndex {
     ghost use Rattle.std.specs.Prelude.{ℕ, List};
+    ghost use Rattle.name_index.specs.Hints.{HaveHints};
     ghost use Rattle.name_index.specs.Index.{IsIndex};
 
     ghost Value = { List (List ℕ) };
 
     ghost view = { λ index. index.names.items };
 
-    ghost invariant = { λ index. IsIndex index.names.items index.numbers };
+    ghost invariant = { λ index. IsIndex index.names.items index.numbers × HaveHints index.names.items index.hints };
 }
 
 impl NameIndex {
@@ -58,14 +59,22 @@ impl NameIndex {
         self.names[number as usize]
     }
 
-    /// The number of a name.
+    /// The number of a name. Hints are one more than a number; a name without one is not among the names.
     pub fn find(&self, name: &Name) -> Option<u32>
         ensures number { result ≡ position (bytes_eq name.now) self.now }
         ensures known { is_some result ≡ among self.now name.now }
     {
-        match self.hinted(name) {
-            Some(number) => Some(number),
-            None => self.searched(name),
+        let Some(hint) = self.hints.at(name) else {
+            return None;
+        };
+        if hint == 0 {
+            return None;
+        }
+        let number = u32::from(hint) - 1;
+        if self.stands_at(number, name) {
+            Some(number)
+        } else {
+            self.searched(name)
         }
     }
 
@@ -77,13 +86,15 @@ impl NameIndex {
         self.numbers.get(name).copied()
     }
 
-    /// The number of a name, where the hint for it is right.
-    fn hinted(&self, name: &Name) -> Option<u32>
-        ensures { IfSome result (λ number. position (bytes_eq name.now) self.now ≡ Some number) }
+    /// Whether a number is that of a name.
+    fn stands_at(&self, number: u32, name: &Name) -> bool
+        ensures here { IsTrue result → position (bytes_eq name.now) self.now ≡ Some number }
+        ensures elsewhere { result ≡ false → position (bytes_eq name.now) self.now ≢ Some number }
     {
-        let number = u32::from(self.hints.at(name)?);
-        let held = self.names.get(number as usize)?;
-        if *held == *name { Some(number) } else { None }
+        match self.names.get(number as usize) {
+            Some(held) => *held == *name,
+            None => false,
+        }
     }
 
     /// Puts a new name behind the others.
@@ -98,7 +109,7 @@ impl NameIndex {
         self.names.reserve(1)?;
         self.numbers.insert(name, number)?;
         self.names.push_reserved(name);
-        self.hints.put(&name, number as u16);
+        self.hints.put(&name, number as u16 + 1);
         Ok(())
     }
 

@@ -1,9 +1,9 @@
 use Rattle.std.proofs.Common.{◌≡◌, ℕ, ◌+◌, Bool, true, false, not, ◌&&◌, cond, refl, sym, ap, ◌∙◌, arith}
 use Rattle.std.proofs.lemmas.Bool.{true≢false}
-use Rattle.house_model.specs.Counting.{count_below, sum_below}
-use Rattle.house_model.specs.Profile.{Pairs}
-use Rattle.house_model.specs.Shortage.{Demand, Places, room_outside, allowed, capacity}
-use Rattle.house_model.proofs.CountingLemmas.{one_if, sum_below-same, sum_below-plus}
+use Rattle.peer_selection.specs.Counting.{count_below, sum_below}
+use Rattle.peer_selection.specs.Profile.{Pairs}
+use Rattle.peer_selection.specs.Shortage.{Demand, Places, room_outside, allowed, capacity}
+use Rattle.peer_selection.proofs.CountingLemmas.{one_if, sum_below-same, sum_below-plus}
 use Rattle.assign_flow.specs.Draft.{IsDraft}
 use Rattle.assign_flow.proofs.SquareLemmas.{sum_square, sum_square-rows, sum_square-columns, sum_square-same, sum_square-plus, count_square, count_square-rows, count_square-columns, count_where, count_unless}
 

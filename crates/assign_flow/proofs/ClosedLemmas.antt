@@ -1,8 +1,8 @@
 use Rattle.std.proofs.Common.{◌≡◌, ℕ, ◌<◌, true, false, sym, subst, inl, inr}
 use Rattle.std.proofs.lemmas.Bool.{cases_Bool, both_ways, true_from_ne_false}
 use Rattle.house_base.specs.Grid.{Square, cell}
-use Rattle.house_model.specs.Profile.{Pairs}
-use Rattle.house_model.specs.Shortage.{Demand, Places}
+use Rattle.peer_selection.specs.Profile.{Pairs}
+use Rattle.peer_selection.specs.Shortage.{Demand, Places}
 use Rattle.assign_flow.specs.Residual.{IsClosed, residual}
 use Rattle.assign_flow.proofs.DemandLemmas.{Meets}
 use Rattle.assign_flow.proofs.SettleLemmas.{AgreeOutside, free_graph, none-gained, none-lost}

@@ -1,7 +1,7 @@
 use Rattle.std.proofs.Common.{◌≡◌, ◌≢◌, ℕ, zero, suc, ◌+◌, ◌<◌, Bool, true, false, not, ◌||◌, eqb, refl, sym, ap, ◌∙◌, inl, inr, arith}
 use Rattle.std.proofs.lemmas.Bool.{cases_eq, both_ways, eq-eqb, ne_eqb}
-use Rattle.house_model.specs.Counting.{count_below}
-use Rattle.house_model.proofs.CountingLemmas.{one_if, below_suc, count_below-suc, count_below-same, count_below-passes, count_below-fails, count_below-more}
+use Rattle.peer_selection.specs.Counting.{count_below}
+use Rattle.peer_selection.proofs.CountingLemmas.{one_if, below_suc, count_below-suc, count_below-same, count_below-passes, count_below-fails, count_below-more}
 
 -- after a place is marked, fewer places are not
 pub marks-fewer : (marks more : ℕ → Bool) (n at : ℕ) → at < n → ((i : ℕ) → more i ≡ (eqb i at || marks i)) → marks at ≡ false

@@ -1,9 +1,9 @@
 use Rattle.std.proofs.Common.{◌≡◌, ℕ, ◌<◌, Bool, true, false, not, ◌&&◌, ◌||◌, eqb, sym, ◌∙◌, refl, IsTrue}
 use Rattle.std.proofs.lemmas.Bool.{and_parts, and_from, eqb-true, eq-eqb, true≢false}
-use Rattle.house_model.specs.Counting.{count_below, all_below}
-use Rattle.house_model.specs.Profile.{Pairs}
-use Rattle.house_model.specs.Shortage.{Demand, is_met}
-use Rattle.house_model.proofs.CountingLemmas.{all_below-each, all_below-from}
+use Rattle.peer_selection.specs.Counting.{count_below, all_below}
+use Rattle.peer_selection.specs.Profile.{Pairs}
+use Rattle.peer_selection.specs.Shortage.{Demand, is_met}
+use Rattle.peer_selection.proofs.CountingLemmas.{all_below-each, all_below-from}
 
 -- That pairs meet the needs and rooms, fact by fact.
 

@@ -1,10 +1,10 @@
 use Rattle.std.proofs.Common.{◌≡◌, ℕ, ◌+◌, ◌-◌, ◌<◌, true, false, List, length, get_or, set, refl, sym, ap, ◌∙◌, inl, inr, arith}
 use Rattle.std.proofs.lemmas.Bool.{cases_eq, both_ways}
 use Rattle.std.proofs.lemmas.List.{get_or_default, get_or-set_same, get_or-set_other}
-use Rattle.house_model.specs.Counting.{sum_below}
-use Rattle.house_model.specs.Profile.{Pairs}
-use Rattle.house_model.specs.Shortage.{Demand}
-use Rattle.house_model.proofs.CountingLemmas.{count_below-none, sum_below-same, sum_below-plus, sum_below-only}
+use Rattle.peer_selection.specs.Counting.{sum_below}
+use Rattle.peer_selection.specs.Profile.{Pairs}
+use Rattle.peer_selection.specs.Shortage.{Demand}
+use Rattle.peer_selection.proofs.CountingLemmas.{count_below-none, sum_below-same, sum_below-plus, sum_below-only}
 use Rattle.assign_flow.specs.Draft.{IsDraft}
 use Rattle.assign_flow.specs.Residual.{at_one}
 use Rattle.assign_flow.proofs.WalkLemmas.{Sets, at_one-same, at_one-other, row-gains, column-gains}

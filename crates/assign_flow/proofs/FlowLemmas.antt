@@ -1,8 +1,8 @@
 use Rattle.std.proofs.Common.{◌≡◌, ℕ, ◌<◌, Bool, true, false, not, ◌&&◌, cond, None, Some, IsTrue, refl, sym, ap, ◌∙◌, subst}
 use Rattle.std.proofs.lemmas.Bool.{and_from}
 use Rattle.house_base.specs.Grid.{cell}
-use Rattle.house_model.specs.Profile.{Pairs}
-use Rattle.house_model.specs.Shortage.{is_met}
+use Rattle.peer_selection.specs.Profile.{Pairs}
+use Rattle.peer_selection.specs.Shortage.{is_met}
 use Rattle.assign_flow.specs.Residual.{residual}
 use Rattle.assign_flow.specs.Reroute.{IsRerouted, IsBlocked}
 use Rattle.assign_flow.specs.Flow.{FlowParts, flow_demand, CanHold}

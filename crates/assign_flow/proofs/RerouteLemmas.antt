@@ -1,9 +1,9 @@
 use Rattle.std.proofs.Common.{◌≡◌, ◌≢◌, ℕ, zero, suc, ◌+◌, ◌<◌, ◌≤◌, ◌⊎◌, Bool, true, false, not, ◌&&◌, cond, eqb, Option, None, Some, refl, sym, ap, ◌∙◌, inl, inr, arith}
 use Rattle.std.proofs.lemmas.Bool.{cases_Bool, both_ways, true≢false, and_parts, and_from, not-true, eqb-true, eq-eqb, ne_eqb, true_from_ne_false, cases_lt, le-ltb}
-use Rattle.house_model.specs.Counting.{count_below}
-use Rattle.house_model.specs.Profile.{Pairs}
-use Rattle.house_model.specs.Shortage.{Places}
-use Rattle.house_model.proofs.CountingLemmas.{one_if, count_below-zero, count_below-suc, count_below-none, count_below-passes, count_below-fails}
+use Rattle.peer_selection.specs.Counting.{count_below}
+use Rattle.peer_selection.specs.Profile.{Pairs}
+use Rattle.peer_selection.specs.Shortage.{Places}
+use Rattle.peer_selection.proofs.CountingLemmas.{one_if, count_below-zero, count_below-suc, count_below-none, count_below-passes, count_below-fails}
 use Rattle.assign_flow.specs.declared.walk.End.{End}
 use Rattle.assign_flow.specs.declared.walk.End.TheVariants.{AtReviewer, AtProposal}
 use Rattle.assign_flow.specs.Residual.{Residual, Tree, IsTree, IsGrown, HasReached, LeadsBack, ChangesAlong, WalksBack, reviewers_of, nowhere, only, height, reviewer_gain, proposal_loss}

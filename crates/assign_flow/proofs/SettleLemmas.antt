@@ -1,9 +1,9 @@
 use Rattle.std.proofs.Common.{◌≡◌, ℕ, ◌+◌, ◌<◌, Bool, true, false, not, ◌&&◌, cond, refl, sym, ap, ◌∙◌, inl, inr, arith}
 use Rattle.std.proofs.lemmas.Bool.{cases_Bool, both_ways, true≢false, and_from}
-use Rattle.house_model.specs.Counting.{sum_below}
-use Rattle.house_model.specs.Profile.{Pairs}
-use Rattle.house_model.specs.Shortage.{Demand, Places}
-use Rattle.house_model.proofs.CountingLemmas.{one_if, sum_below-same}
+use Rattle.peer_selection.specs.Counting.{sum_below}
+use Rattle.peer_selection.specs.Profile.{Pairs}
+use Rattle.peer_selection.specs.Shortage.{Demand, Places}
+use Rattle.peer_selection.proofs.CountingLemmas.{one_if, sum_below-same}
 use Rattle.assign_flow.specs.Residual.{Residual, IsClosed}
 use Rattle.assign_flow.specs.Reroute.{IsRerouted, IsBlocked}
 use Rattle.assign_flow.proofs.SquareLemmas.{sum_square, sum_square-rows, sum_square-columns, sum_square-same, sum_square-plus, sum_square-each, count_where}

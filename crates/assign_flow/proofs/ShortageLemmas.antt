@@ -1,10 +1,10 @@
 use Rattle.std.proofs.Common.{◌≡◌, ℕ, zero, suc, List, [], ◌∷◌, length, sum, slice_index, ◌+◌, ◌<◌, Bool, true, false, not, ◌&&◌, cond, ltb, refl, sym, ap, ◌∙◌, inl, inr, arith}
 use Rattle.std.proofs.lemmas.Bool.{both_ways, true≢false, and_parts, and_from, lt-ltb, ltb-true, false_from_ne_true, true_from_ne_false, not-true}
 use Rattle.std.proofs.lemmas.Bool.{cases_lt}
-use Rattle.house_model.specs.Counting.{count_below, sum_below}
-use Rattle.house_model.specs.Profile.{Pairs}
-use Rattle.house_model.specs.Shortage.{Demand, Places, IsWithin, IsShort, IsShortage, room_outside, allowed, capacity}
-use Rattle.house_model.proofs.CountingLemmas.{one_if, sum_below-zero, sum_below-suc, sum_below-first, sum_below-same, sum_below-none, sum_below-term, count_below-same}
+use Rattle.peer_selection.specs.Counting.{count_below, sum_below}
+use Rattle.peer_selection.specs.Profile.{Pairs}
+use Rattle.peer_selection.specs.Shortage.{Demand, Places, IsWithin, IsShort, IsShortage, room_outside, allowed, capacity}
+use Rattle.peer_selection.proofs.CountingLemmas.{one_if, sum_below-zero, sum_below-suc, sum_below-first, sum_below-same, sum_below-none, sum_below-term, count_below-same}
 use Rattle.std.proofs.lemmas.List.Sums.{sum_by-cons}
 use Rattle.cut_gap.proofs.CutLemmas.{capacity-and_needed}
 use Rattle.assign_flow.specs.Draft.{IsDraft}

@@ -1,7 +1,7 @@
 use Rattle.std.proofs.Common.{◌≡◌, ℕ, ◌+◌, ◌<◌, Bool, true, false, not, ◌&&◌, cond, refl, sym, ◌∙◌, arith}
-use Rattle.house_model.specs.Counting.{count_below, sum_below}
-use Rattle.house_model.specs.Profile.{Pairs}
-use Rattle.house_model.proofs.CountingLemmas.{one_if, sum_below-same, sum_below-none, sum_below-plus, sum_below-term, sum_below-exchange, count_below-sum}
+use Rattle.peer_selection.specs.Counting.{count_below, sum_below}
+use Rattle.peer_selection.specs.Profile.{Pairs}
+use Rattle.peer_selection.proofs.CountingLemmas.{one_if, sum_below-same, sum_below-none, sum_below-plus, sum_below-term, sum_below-exchange, count_below-sum}
 
 -- Sums over a square of reviewers and proposals.
 

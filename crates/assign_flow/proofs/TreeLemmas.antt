@@ -2,10 +2,10 @@ use Rattle.std.proofs.Common.{◌≡◌, ◌≢◌, ℕ, ◌+◌, ◌<◌, ◌�
 use Rattle.std.specs.Prelude.{IfSome, IfNone}
 use Rattle.std.specs.Option.{option_map_or}
 use Rattle.std.proofs.lemmas.Bool.{cases_eq, cases_lt, false_from_ne_true, ltb-true, lt-ltb, le-ltb, both_ways, and_parts, and_from, not-true, or_cases}
-use Rattle.house_model.specs.Counting.{count_below}
-use Rattle.house_model.specs.Shortage.{Places}
+use Rattle.peer_selection.specs.Counting.{count_below}
+use Rattle.peer_selection.specs.Shortage.{Places}
 use Rattle.assign_flow.specs.Residual.{Residual, Tree, reviewers_of, height, IsTree, IsGrown, IsSought, IsUnderWay, HasReached, ReachesReviewer, ReachesProposal}
-use Rattle.house_model.proofs.CountingLemmas.{count_below-none, count_below-all, count_below-more, count_below-same}
+use Rattle.peer_selection.proofs.CountingLemmas.{count_below-none, count_below-all, count_below-more, count_below-same}
 use Rattle.assign_flow.proofs.CountLemmas.{count_below-turned}
 
 -- Trees of a search, and one step more.

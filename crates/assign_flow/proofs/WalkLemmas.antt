@@ -1,8 +1,8 @@
 use Rattle.std.proofs.Common.{◌≡◌, ◌≢◌, ℕ, ◌+◌, ◌<◌, ◌≤◌, ◌⊎◌, Bool, true, false, ◌&&◌, cond, eqb, None, Some, refl, sym, ap, ◌∙◌, inl, inr, arith}
 use Rattle.std.proofs.lemmas.Bool.{cases_eq, cases_Bool, both_ways, eq-eqb, ne_eqb, eqb-true, and_from, and_parts, cond-true, cond-false}
-use Rattle.house_model.specs.Counting.{count_below}
-use Rattle.house_model.specs.Profile.{Pairs}
-use Rattle.house_model.proofs.CountingLemmas.{count_below-same}
+use Rattle.peer_selection.specs.Counting.{count_below}
+use Rattle.peer_selection.specs.Profile.{Pairs}
+use Rattle.peer_selection.proofs.CountingLemmas.{count_below-same}
 use Rattle.assign_flow.specs.Residual.{Residual, Tree, height, IsTree, LeadsBack, ChangesAlong, HasWalked, WalksBack, at_one}
 use Rattle.assign_flow.specs.declared.walk.End.TheVariants.{AtReviewer}
 use Rattle.assign_flow.proofs.CountLemmas.{count_below-turned}

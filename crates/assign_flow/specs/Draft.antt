@@ -1,8 +1,8 @@
 use Rattle.std.specs.Prelude.{◌≡◌, ℕ, ◌+◌, ◌<◌, true, false, slice_index}
 use Rattle.house_base.specs.Grid.{cell}
-use Rattle.house_model.specs.Counting.{count_below}
-use Rattle.house_model.specs.Profile.{Pairs}
-use Rattle.house_model.specs.Shortage.{Demand}
+use Rattle.peer_selection.specs.Counting.{count_below}
+use Rattle.peer_selection.specs.Profile.{Pairs}
+use Rattle.peer_selection.specs.Shortage.{Demand}
 use Rattle.assign_flow.specs.declared.draft.Draft.{Draft}
 
 -- Pairs that go past no need and no room: each may be, and this many are wanting to each reviewer and proposal.

@@ -1,7 +1,7 @@
 use Rattle.std.specs.Prelude.{◌≡◌, ℕ, ◌<◌, Bool, not, ◌&&◌, Option, Some, None, List, IsTrue, if◌then◌else◌}
 use Rattle.house_base.specs.Grid.{Square, cell}
-use Rattle.house_model.specs.Profile.{Pairs}
-use Rattle.house_model.specs.Shortage.{Demand, is_met}
+use Rattle.peer_selection.specs.Profile.{Pairs}
+use Rattle.peer_selection.specs.Shortage.{Demand, is_met}
 use Rattle.cut_gap.specs.Cut.{demand_of}
 
 -- What a flow stands for: the needs, the rooms, the pairs that may be, the pairs that are held, and the pairs that may

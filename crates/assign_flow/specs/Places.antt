@@ -1,5 +1,5 @@
 use Rattle.house_base.specs.Rows.{has}
-use Rattle.house_model.specs.Shortage.{Places}
+use Rattle.peer_selection.specs.Shortage.{Places}
 use Rattle.assign_flow.specs.declared.places.PlaceSet.{PlaceSet}
 
 -- the places that a set has

@@ -1,7 +1,7 @@
 use Rattle.std.specs.Prelude.{◌≡◌, ℕ, ◌<◌, ◌≤◌, true, false, not, ◌&&◌}
-use Rattle.house_model.specs.Counting.{count_below}
-use Rattle.house_model.specs.Profile.{Pairs}
-use Rattle.house_model.specs.Shortage.{Places}
+use Rattle.peer_selection.specs.Counting.{count_below}
+use Rattle.peer_selection.specs.Profile.{Pairs}
+use Rattle.peer_selection.specs.Shortage.{Places}
 use Rattle.assign_flow.specs.Residual.{Residual, IsClosed}
 
 -- the pairs that are in the second set and not in the first

@@ -2,9 +2,9 @@ use Rattle.std.specs.Prelude.{◌≡◌, ◌≢◌, ℕ, ◌+◌, ◌<◌, ◌�
 use Rattle.std.specs.Prelude.{Option, None, Some, List, slice_index}
 use Rattle.std.specs.Option.{option_map_or}
 use Rattle.house_base.specs.Grid.{Square, cell}
-use Rattle.house_model.specs.Counting.{count_below}
-use Rattle.house_model.specs.Profile.{Pairs}
-use Rattle.house_model.specs.Shortage.{Places, IsWithin}
+use Rattle.peer_selection.specs.Counting.{count_below}
+use Rattle.peer_selection.specs.Profile.{Pairs}
+use Rattle.peer_selection.specs.Shortage.{Places, IsWithin}
 use Rattle.assign_flow.specs.declared.walk.End.{End}
 use Rattle.assign_flow.specs.declared.walk.End.TheVariants.{AtReviewer, AtProposal}
 

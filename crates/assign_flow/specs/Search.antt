@@ -3,7 +3,7 @@ use Rattle.assign_flow.specs.declared.search.ReviewerMark.{ReviewerMark}
 use Rattle.assign_flow.specs.declared.search.ProposalMark.{ProposalMark}
 use Rattle.assign_flow.specs.declared.search.Search.{Search}
 use Rattle.assign_flow.specs.Places.{places_of}
-use Rattle.house_model.specs.Shortage.{Places}
+use Rattle.peer_selection.specs.Shortage.{Places}
 use Rattle.assign_flow.specs.Residual.{Residual, Tree, IsUnderWay}
 
 abbrev pub reviewer_mark : List ReviewerMark → ℕ → ReviewerMark

@@ -4,7 +4,7 @@ ghost use Rattle.std.specs.Prelude.{◌≡◌, ◌≢◌, ℕ, ◌<◌, ◌≤�
 ghost use Rattle.std.specs.Prelude.{true, false, IsTrue, IfOk, length, vec_len, slice_index};
 ghost use Rattle.house_base.specs.Grid.{cell};
 ghost use Rattle.house_base.specs.declared.limits.TheConstants.{MOST_APPLICANTS};
-ghost use Rattle.house_model.specs.Counting.{sum_below};
+ghost use Rattle.peer_selection.specs.Counting.{sum_below};
 ghost use Rattle.assign_flow.specs.Places.{places_of};
 
 use crate::places::PlaceSet;

@@ -3,8 +3,8 @@
 ghost use Rattle.std.specs.Prelude.{◌≡◌, ℕ, ◌<◌, ◌↔◌, ◌==◌, ◌&&◌, true};
 ghost use Rattle.std.specs.Prelude.{false, Some, None, IsTrue, IfOk, length, sum, if◌then◌else◌};
 ghost use Rattle.house_base.specs.Grid.{cell};
-ghost use Rattle.house_model.specs.Profile.{Pairs};
-ghost use Rattle.house_model.specs.Shortage.{is_met, IsShortage};
+ghost use Rattle.peer_selection.specs.Profile.{Pairs};
+ghost use Rattle.peer_selection.specs.Shortage.{is_met, IsShortage};
 ghost use Rattle.cut_gap.specs.Cut.{marked, demand_of};
 
 use crate::closed::Closed;
@@ -33,7 +33,7 @@ pub struct Flow {
 impl Model for Flow {
     ghost use Rattle.std.specs.Prelude.{◌≡◌, ℕ, ◌<◌, true, IsTrue, length, vec_len};
     ghost use Rattle.house_base.specs.Grid.{cell};
-    ghost use Rattle.house_model.specs.Shortage.{is_met};
+    ghost use Rattle.peer_selection.specs.Shortage.{is_met};
     ghost use Rattle.cut_gap.specs.Cut.{demand_of};
     ghost use Rattle.assign_flow.specs.ClosedSet.{HasNoWayOut};
     ghost use Rattle.assign_flow.specs.Flow.{FlowParts};

@@ -2,7 +2,7 @@
 
 ghost use Rattle.std.specs.Prelude.{◌≡◌, ℕ, ◌+◌, ◌<◌, ◌≤◌, ◌==◌, ◌||◌, true, false, not};
 ghost use Rattle.std.specs.Prelude.{vec_len, length, slice_index, IfOk, IfSome, IfNone, None, Some};
-ghost use Rattle.house_model.specs.Shortage.{Places};
+ghost use Rattle.peer_selection.specs.Shortage.{Places};
 ghost use Rattle.cut_gap.specs.Cut.{marked};
 ghost use Rattle.house_base.specs.declared.limits.TheConstants.{MOST_APPLICANTS};
 ghost use Rattle.assign_flow.specs.Places.{places_of};

@@ -2,8 +2,8 @@
 
 ghost use Rattle.std.specs.Prelude.{◌≡◌, ℕ, ◌<◌, false, IsTrue, IfOk, length, sum};
 ghost use Rattle.house_base.specs.Grid.{cell};
-ghost use Rattle.house_model.specs.Profile.{Pairs};
-ghost use Rattle.house_model.specs.Shortage.{is_met, IsShortage};
+ghost use Rattle.peer_selection.specs.Profile.{Pairs};
+ghost use Rattle.peer_selection.specs.Shortage.{is_met, IsShortage};
 ghost use Rattle.cut_gap.specs.Cut.{marked, demand_of};
 ghost use Rattle.assign_flow.specs.Solved.{IfPairs, IfShort};
 

@@ -3,30 +3,30 @@ use Rattle.std.proofs.Common.{◌≡◌, ℕ, zero, suc, ◌+◌, ◌-◌, ◌*�
 use Rattle.std.specs.List.{sum_by}
 use Rattle.std.proofs.lemmas.List.{get_or-map, map-append}
 use Rattle.house_base.specs.declared.limits.TheConstants.{DOLLAR, MOST_SEATS}
-use Rattle.house_base.specs.Setting.{Setting, IsSetting, StandInTurn, size, cluster_at}
-use Rattle.house_model.specs.Counting.{count_below, sum_below, numbers_below}
-use Rattle.house_model.specs.Profile.{Profile, Pairs, Points, row, row_points, cents, score, quota, cumulative_quota, cluster_size, rank}
-use Rattle.house_model.proofs.CountingLemmas.{sum_below-add_one, sum_below-longer, sum_below-same, numbers_below-add_one}
+use Rattle.house_base.specs.Setting.{Setting, IsSetting, StandInTurn, size, cluster_at, name_at}
+use Rattle.house_base.proofs.Settings.{cluster_at-read, length-StandInTurn}
+use Rattle.peer_selection.specs.Counting.{count_below, sum_below, numbers_below}
+use Rattle.peer_selection.specs.Profile.{Profile, Pairs, Points, row, row_points, cents, score, quota, cumulative_quota, cluster_size, rank}
+use Rattle.peer_selection.proofs.CountingLemmas.{sum_below-add_one, sum_below-longer, sum_below-same, numbers_below-add_one}
+use Rattle.peer_selection.specs.Laws.{IsAssigned}
+use Rattle.peer_selection.specs.Marks.{marks}
+use Rattle.peer_selection.proofs.MarkLemmas.{seats-marks, chance-marks_of}
+use Rattle.peer_selection.proofs.ClusterLemmas.{cluster_at-in_range}
 use Rattle.house_model.specs.declared.outcome.ClusterRow.{ClusterRow}
 use Rattle.house_model.specs.declared.outcome.ApplicantRow.{ApplicantRow}
 use Rattle.house_model.specs.Report.{OutcomeParts, applicant_row, cluster_row, cluster_rows_of, applicant_rows_of, outcome_of}
-use Rattle.house_model.specs.Laws.{IsAssigned}
-use Rattle.house_model.specs.Marks.{marks}
-use Rattle.house_model.proofs.MarkLemmas.{seats-marks, chance-marks_of}
-use Rattle.house_base.proofs.Settings.{cluster_at-read, length-StandInTurn}
-use Rattle.house_model.proofs.ClusterLemmas.{cluster_at-in_range}
 use Rattle.seat_quota.specs.Totals.{Shares, IsTotals, HoldsTotals}
 use Rattle.house_base.specs.declared.answer.Asides.{Asides}
 use Rattle.house_base.specs.declared.limits.TheConstants.{MOST_APPLICANTS}
 use Rattle.std.proofs.lemmas.List.Sums.{sum_by_push}
 use Rattle.std.proofs.Math.Nat.{mul-le-mul, mul-le-mul_left}
-use Rattle.house_model.specs.Profile.{denominator, cluster_cents}
-use Rattle.house_model.specs.Lottery.{seats, filled, empty_seats, selected}
-use Rattle.house_model.specs.Report.{name_at, person_at}
-use Rattle.house_model.proofs.CountingLemmas.{sum_below-times, get_or-numbers_below, length-numbers_below}
-use Rattle.house_model.proofs.SeatLemmas.{cumulative_quota-suc}
 use Rattle.house_base.specs.declared.plan.Owner.{Owner}
 use Rattle.house_base.specs.declared.plan.Person.{Person}
+use Rattle.peer_selection.specs.Profile.{denominator, cluster_cents}
+use Rattle.peer_selection.specs.Lottery.{seats, filled, empty_seats, selected}
+use Rattle.peer_selection.proofs.CountingLemmas.{sum_below-times, get_or-numbers_below, length-numbers_below}
+use Rattle.peer_selection.proofs.SeatLemmas.{cumulative_quota-suc}
+use Rattle.house_model.specs.Report.{person_at}
 use Rattle.std.specs.List.{slice_get}
 use Rattle.std.specs.Prelude.{Some}
 
@@ -94,10 +94,10 @@ cluster_row-from f t i v before cents quota seats filled is l is_before is_cents
     let quota_is : quota ≡ f.setting.seats * cluster_cents f (i + 1) = is_quota ∙ ap (λ x. f.setting.seats * x) cents_are in
     let from : before ≡ cumulative_quota f i = is_before ∙ quotas-from f t i is (omega arith) in
     let to : before + quota ≡ cumulative_quota f (suc i) = omega (arith, from, quota_is, cumulative_quota-suc f i) in
-    let own_quota : quota ≡ Rattle.house_model.specs.Profile.quota f (i + 1) = quota_is in
+    let own_quota : quota ≡ Rattle.peer_selection.specs.Profile.quota f (i + 1) = quota_is in
     let seats_are = is_seats ∙ (ap (λ x. marks x quota d v) from ∙ (ap (λ x. marks (cumulative_quota f i) x d v) own_quota
     ∙ sym (seats-marks f i v some (omega (arith, to, within))))) in
-    same_cluster_row cents quota seats filled (cluster_cents f (i + 1)) (f.setting.seats * cluster_cents f (i + 1)) (Rattle.house_model.specs.Lottery.seats f (i + 1) v) (min (Rattle.house_model.specs.Lottery.seats f (i + 1) v) (cluster_size f.setting (i + 1)))
+    same_cluster_row cents quota seats filled (cluster_cents f (i + 1)) (f.setting.seats * cluster_cents f (i + 1)) (Rattle.peer_selection.specs.Lottery.seats f (i + 1) v) (min (Rattle.peer_selection.specs.Lottery.seats f (i + 1) v) (cluster_size f.setting (i + 1)))
     cents_are quota_is seats_are (is_filled ∙ ap (λ x. min x (cluster_size f.setting (i + 1))) seats_are)
 
 -- one more row
@@ -115,12 +115,12 @@ cluster_rows-at f v j h l =
     ∙ (ap (λ i. cluster_row f v (i + 1)) (get_or-numbers_below n (j - 1) 0 (omega arith)) ∙ ap (cluster_row f v) (let e : j - 1 + 1 ≡ j = omega arith in e))
 
 pub selected-from : (f : Profile) (v place cluster rank : ℕ) (rows : List ClusterRow) → rows ≡ cluster_rows_of f v → cluster ≡ cluster_at f.setting place → 1 ≤ cluster → cluster ≤ f.setting.clusters →
-    rank ≡ Rattle.house_model.specs.Profile.rank f place → leb rank (get_or rows (cluster - 1) no_row).seats ≡ selected f place v
+    rank ≡ Rattle.peer_selection.specs.Profile.rank f place → leb rank (get_or rows (cluster - 1) no_row).seats ≡ selected f place v
 unfolding selected cluster_row
 selected-from f v place cluster rank rows is e h l r =
     ap (λ xs. leb rank (get_or xs (cluster - 1) no_row).seats) is
     ∙ (ap (λ row. leb rank row.seats) (cluster_rows-at f v cluster h l)
-    ∙ (ap (λ j. leb rank (Rattle.house_model.specs.Lottery.seats f j v)) e ∙ ap (λ x. leb x (Rattle.house_model.specs.Lottery.seats f (cluster_at f.setting place) v)) r))
+    ∙ (ap (λ j. leb rank (Rattle.peer_selection.specs.Lottery.seats f j v)) e ∙ ap (λ x. leb x (Rattle.peer_selection.specs.Lottery.seats f (cluster_at f.setting place) v)) r))
 
 -- the row of an applicant with these parts
 abbrev pub applicant_with : List ℕ → List ℕ → ℕ → ℕ → ℕ → ℕ → Bool → ApplicantRow
@@ -132,28 +132,28 @@ same_applicant_row a b c d e g x a' b' c' d' e' g' x' h1 h2 h3 h4 h5 h6 h7 = cc
 
 -- the chance, counted over the draws
 pub chance-from : (f : Profile) (v place cluster rank den chance : ℕ) (rows : List ClusterRow) → IsAssigned f → place < size f.setting → rows ≡ cluster_rows_of f v →
-    1 ≤ cluster → cluster ≤ f.setting.clusters → cluster ≡ cluster_at f.setting place → rank ≡ Rattle.house_model.specs.Profile.rank f place → den ≡ denominator f.setting →
-    ((start : ℕ) → chance ≡ count_below (λ v. leb rank (marks start (get_or rows (cluster - 1) no_row).quota den v)) den) → chance ≡ Rattle.house_model.specs.Lottery.chance f place
+    1 ≤ cluster → cluster ≤ f.setting.clusters → cluster ≡ cluster_at f.setting place → rank ≡ Rattle.peer_selection.specs.Profile.rank f place → den ≡ denominator f.setting →
+    ((start : ℕ) → chance ≡ count_below (λ v. leb rank (marks start (get_or rows (cluster - 1) no_row).quota den v)) den) → chance ≡ Rattle.peer_selection.specs.Lottery.chance f place
 unfolding cluster_row
 chance-from f v place cluster rank den chance rows is l rows_are low high c_is r_is d_is counted =
     let start = cumulative_quota f (cluster_at f.setting place - 1) in
-    let quota_is : (get_or rows (cluster - 1) no_row).quota ≡ Rattle.house_model.specs.Profile.quota f (cluster_at f.setting place) =
-    ap (λ xs. (get_or xs (cluster - 1) no_row).quota) rows_are ∙ ap (λ (row : ClusterRow). row.quota) (cluster_rows-at f v cluster low high) ∙ ap (Rattle.house_model.specs.Profile.quota f) c_is in
+    let quota_is : (get_or rows (cluster - 1) no_row).quota ≡ Rattle.peer_selection.specs.Profile.quota f (cluster_at f.setting place) =
+    ap (λ xs. (get_or xs (cluster - 1) no_row).quota) rows_are ∙ ap (λ (row : ClusterRow). row.quota) (cluster_rows-at f v cluster low high) ∙ ap (Rattle.peer_selection.specs.Profile.quota f) c_is in
     counted start
     ∙ ap (λ q. count_below (λ v. leb rank (marks start q den v)) den) quota_is
-    ∙ ap (λ r. count_below (λ v. leb r (marks start (Rattle.house_model.specs.Profile.quota f (cluster_at f.setting place)) den v)) den) r_is
-    ∙ ap (λ d. count_below (λ v. leb (Rattle.house_model.specs.Profile.rank f place) (marks start (Rattle.house_model.specs.Profile.quota f (cluster_at f.setting place)) d v)) d) d_is
+    ∙ ap (λ r. count_below (λ v. leb r (marks start (Rattle.peer_selection.specs.Profile.quota f (cluster_at f.setting place)) den v)) den) r_is
+    ∙ ap (λ d. count_below (λ v. leb (Rattle.peer_selection.specs.Profile.rank f place) (marks start (Rattle.peer_selection.specs.Profile.quota f (cluster_at f.setting place)) d v)) d) d_is
     ∙ sym (chance-marks_of f place is l)
 
 pub applicant_row-from : (f : Profile) (v place : ℕ) (name person : List ℕ) (cluster rank cents den chance : ℕ) (rows : List ClusterRow) → IsAssigned f → place < size f.setting → rows ≡ cluster_rows_of f v →
     1 ≤ cluster → cluster ≤ f.setting.clusters → name ≡ name_at f.setting place → person ≡ person_at f.setting place → cluster ≡ cluster_at f.setting place →
-    rank ≡ Rattle.house_model.specs.Profile.rank f place → cents ≡ score f place → den ≡ denominator f.setting →
+    rank ≡ Rattle.peer_selection.specs.Profile.rank f place → cents ≡ score f place → den ≡ denominator f.setting →
     ((start : ℕ) → chance ≡ count_below (λ v. leb rank (marks start (get_or rows (cluster - 1) no_row).quota den v)) den) →
     applicant_with name person cluster rank cents chance (leb rank (get_or rows (cluster - 1) no_row).seats) ≡ applicant_row f v place
 unfolding applicant_row
 applicant_row-from f v place name person cluster rank cents den chance rows assigned l is low high h1 h2 h3 h4 h5 h6 counted =
     same_applicant_row name person cluster rank cents chance (leb rank (get_or rows (cluster - 1) no_row).seats)
-    (name_at f.setting place) (person_at f.setting place) (cluster_at f.setting place) (Rattle.house_model.specs.Profile.rank f place) (score f place) (Rattle.house_model.specs.Lottery.chance f place) (selected f place v)
+    (name_at f.setting place) (person_at f.setting place) (cluster_at f.setting place) (Rattle.peer_selection.specs.Profile.rank f place) (score f place) (Rattle.peer_selection.specs.Lottery.chance f place) (selected f place v)
     h1 h2 h3 h4 h5 (chance-from f v place cluster rank den chance rows assigned l is low high h3 h4 h6 counted) (selected-from f v place cluster rank rows is h3 low high h4)
 
 -- the outcome with these parts

@@ -15,9 +15,9 @@ use Rattle.std.proofs.lemmas.Iterator.Adapters.{position_from-zero}
 use Rattle.std.proofs.lemmas.Bool.{and_parts}
 use borrow.Author.Tests.{ltb-true, leb-true}
 use Rattle.house_base.specs.declared.plan.Owner.{Owner}
-use Rattle.house_base.specs.Setting.{IsOwned, number_at, numbers_of}
+use Rattle.house_base.specs.Setting.{IsOwned, number_at, numbers_of, name_at}
 use Rattle.house_base.proofs.Settings.{number_at-read, same_owner}
-use Rattle.house_model.specs.Report.{name_at, person_at}
+use Rattle.house_model.specs.Report.{person_at}
 
 -- Where a register number stands, and whose applicant stands at a place.
 

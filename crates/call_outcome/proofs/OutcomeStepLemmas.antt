@@ -1,8 +1,8 @@
 -- Steps of counts and of lists.
 use Rattle.std.proofs.Common.{◌≡◌, ◌≢◌, ℕ, ◌+◌, ◌<◌, ◌≤◌, Bool, List, ◌++◌, length, take, drop, get_or, set, ap, ◌∙◌, arith, below_more}
 use Rattle.std.proofs.lemmas.List.{get_or-set_same, get_or-set_other, take_all, take-append-le}
-use Rattle.house_model.specs.Counting.{count_below}
-use Rattle.house_model.proofs.CountingLemmas.{one_if, count_below-add_one}
+use Rattle.peer_selection.specs.Counting.{count_below}
+use Rattle.peer_selection.proofs.CountingLemmas.{one_if, count_below-add_one}
 
 -- one more number, which passes a test or not
 pub counted : (test : ℕ → Bool) (n before after : ℕ) (b : Bool) → test n ≡ b → before ≡ count_below test n → after ≡ before + one_if b → after ≡ count_below test (n + 1)

@@ -2,10 +2,9 @@
 
 ghost use Rattle.std.specs.Prelude.{◌≡◌, ℕ, ◌<◌, length, IfOk};
 ghost use Rattle.house_base.specs.Setting.{IsSetting, size};
-ghost use Rattle.house_model.specs.Laws.{IsAssigned};
-ghost use Rattle.house_model.specs.Profile.{Pairs, Points};
+ghost use Rattle.peer_selection.specs.Laws.{IsAssigned};
+ghost use Rattle.peer_selection.specs.Profile.{Pairs, Points, profile_on};
 ghost use Rattle.house_model.specs.Report.{applicant_row, applicant_rows_of, cluster_rows_of};
-ghost use Rattle.review_desk.specs.Desk.{profile_on};
 ghost use Rattle.seat_quota.specs.Totals.{HoldsTotals, IsTotals};
 
 use exact_chance::chance;

@@ -4,9 +4,8 @@ ghost use Rattle.std.specs.Prelude.{◌≡◌, ◌-◌, ◌<◌, ◌≤◌, All,
 ghost use Rattle.std.specs.List.{sum_by};
 ghost use Rattle.house_base.specs.Setting.{IsSetting};
 ghost use Rattle.house_base.specs.declared.limits.TheConstants.{MOST_SEATS, MOST_CLUSTERS};
-ghost use Rattle.house_model.specs.Profile.{Pairs, Points, denominator, cluster_size};
+ghost use Rattle.peer_selection.specs.Profile.{Pairs, Points, denominator, cluster_size, profile_on};
 ghost use Rattle.house_model.specs.Report.{cluster_rows_of};
-ghost use Rattle.review_desk.specs.Desk.{profile_on};
 ghost use Rattle.seat_quota.specs.Totals.{HoldsTotals, IsTotals};
 
 use house_base::{Memory, Plan};

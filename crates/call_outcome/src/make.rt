@@ -2,10 +2,9 @@
 
 ghost use Rattle.std.specs.Prelude.{◌≡◌, ◌<◌, IfOk};
 ghost use Rattle.house_base.specs.Setting.{IsSetting};
-ghost use Rattle.house_model.specs.Laws.{IsAssigned};
-ghost use Rattle.house_model.specs.Profile.{Pairs, Points, denominator};
+ghost use Rattle.peer_selection.specs.Laws.{IsAssigned};
+ghost use Rattle.peer_selection.specs.Profile.{Pairs, Points, denominator, profile_on};
 ghost use Rattle.house_model.specs.Report.{outcome_of};
-ghost use Rattle.review_desk.specs.Desk.{profile_on};
 ghost use Rattle.seat_quota.specs.Totals.{HoldsTotals, IsTotals};
 
 use crate::applicants::applicant_rows;

@@ -12,14 +12,13 @@ use Rattle.house_base.specs.declared.limits.TheConstants.{MOST_APPLICANTS}
 use Rattle.house_base.specs.declared.plan.Person.{Person}
 use Rattle.house_base.specs.declared.plan.Owner.{Owner}
 use Rattle.house_base.specs.Grid.{Square, cell}
-use Rattle.house_base.specs.Setting.{Setting, IsSetting, owner_from}
+use Rattle.house_base.specs.Setting.{Setting, IsSetting, owner_from, name_at}
 use Rattle.house_base.proofs.Settings.{owner_from-first}
-use Rattle.house_model.specs.Counting.{numbers_below}
-use Rattle.house_model.specs.Report.{name_at}
-use Rattle.house_model.specs.Text.{Text}
+use Rattle.house_base.specs.Text.{Text}
+use Rattle.house_base.proofs.InOrderLemmas.{In, In-Contains, In-from_Contains}
+use Rattle.peer_selection.specs.Counting.{numbers_below}
+use Rattle.peer_selection.proofs.CountingLemmas.{length-numbers_below, get_or-numbers_below}
 use Rattle.house_model.specs.Register.{Register, names, people, owners, square_of, name_pair, pair_among}
-use Rattle.house_model.proofs.CountingLemmas.{length-numbers_below, get_or-numbers_below}
-use Rattle.house_model.proofs.InOrderLemmas.{In, In-Contains, In-from_Contains}
 use Rattle.house_model.proofs.ReviewerLemmas.{cases_owner, reviewer_at-some, reviewer_at-none}
 use Rattle.cluster_draw.specs.Barred.{name_in, is_barred}
 use Rattle.cluster_draw.specs.Placings.{AreApplicants, GivesOwnPlaces, numbers_in}

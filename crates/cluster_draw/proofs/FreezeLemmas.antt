@@ -9,14 +9,14 @@ use Rattle.house_base.specs.declared.plan.Person.{Person}
 use Rattle.house_base.specs.declared.plan.Owner.{Owner}
 use Rattle.house_base.specs.Grid.{Square, cell}
 use Rattle.house_base.specs.Setting.{Setting, IsSetting}
+use Rattle.house_base.specs.Text.{Text}
+use Rattle.house_base.proofs.InOrderLemmas.{In, All-In}
+use Rattle.peer_selection.specs.Profile.{denominator}
 use Rattle.house_model.specs.Naming.{HasNamesOf}
-use Rattle.house_model.specs.Profile.{denominator}
 use Rattle.house_model.specs.Register.{Register, IsRegister, persons, own_count, own_people, owners_from, all_placed}
 use Rattle.house_model.specs.Said.{denominator_of}
 use Rattle.house_model.specs.Seeds.{drawn_persons, drawn_register, seeded_persons, seeded_register, seeded_setting, open_setting_in, setting_in}
-use Rattle.house_model.specs.Text.{Text}
 use Rattle.house_model.proofs.AtIndexLemmas.{In-slice_get}
-use Rattle.house_model.proofs.InOrderLemmas.{In, All-In}
 use Rattle.house_model.proofs.OrderedLemmas.{IsOrder, people_in, length-people_in, name_of_number_in, IsSetting-setting_in, HasNamesOf-setting_in}
 use Rattle.house_model.proofs.RegisterPeopleLemmas.{length-own_people, own_count-some}
 use Rattle.house_model.proofs.RegisterSettingLemmas.{MakesSetting, names-owners_from}

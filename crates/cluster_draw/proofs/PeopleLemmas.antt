@@ -8,13 +8,14 @@ use Rattle.std.proofs.lemmas.List.Concat.{flat_map-append}
 use Rattle.std.proofs.lemmas.Option.{slice_get-map, slice_get_within, slice_get-get_or, get_or_from_slice_get, same_Some}
 use Rattle.house_base.specs.declared.plan.Person.{Person}
 use Rattle.house_base.specs.declared.plan.Owner.{Owner}
-use Rattle.house_model.specs.Text.{Text}
-use Rattle.house_model.specs.Register.{Register, names, persons, placed_names, own_count, own_people, owners_from, entry, cluster_of, person_of, among, firsts}
+use Rattle.house_base.specs.Text.{Text, among}
+use Rattle.house_model.specs.Register.{Register, names, persons, placed_names, own_count, own_people, owners_from, entry, cluster_of, person_of, firsts}
 use Rattle.register_book.specs.Held.{text_at}
 use Rattle.cluster_draw.specs.Placings.{name_of, names_of, ArePlacings, own_rows, applicants_in}
 use Rattle.cluster_draw.specs.declared.placings.Placing.{Placing}
-use Rattle.house_model.proofs.InOrderLemmas.{In, All-In, filter-In}
-use Rattle.house_model.proofs.GroupLemmas.{In-group, bytes_eq-other, not_In, not_among, bytes_eq-same}
+use Rattle.house_base.proofs.InOrderLemmas.{In, All-In, filter-In}
+use Rattle.house_base.proofs.AmongLemmas.{bytes_eq-other, not_In, not_among, bytes_eq-same}
+use Rattle.house_model.proofs.GroupLemmas.{In-group}
 use Rattle.house_model.proofs.RegisterPeopleLemmas.{Numbered, person_in, numbered, own_entries, length-own_people}
 use Rattle.house_model.proofs.AtIndexLemmas.{In-slice_get}
 

@@ -3,11 +3,11 @@ use Rattle.std.specs.Option.{unwrap_or}
 use Rattle.std.proofs.lemmas.Bool.{false≢true}
 use Rattle.std.proofs.lemmas.List.{take_more}
 use Rattle.std.proofs.lemmas.Option.{slice_get_within, get_or_from_slice_get}
-use Rattle.house_model.specs.Register.{Register, persons, cluster_of, among}
+use Rattle.house_base.specs.Text.{Text, among}
+use Rattle.house_base.proofs.AmongLemmas.{In-among}
+use Rattle.house_base.proofs.InOrderLemmas.{In, In-append, In-get_or, All-In, All-from_In}
+use Rattle.house_model.specs.Register.{Register, persons, cluster_of}
 use Rattle.house_model.specs.Seeds.{drawn_cluster, drawn_register}
-use Rattle.house_model.specs.Text.{Text}
-use Rattle.house_model.proofs.GroupLemmas.{In-among}
-use Rattle.house_model.proofs.InOrderLemmas.{In, In-append, In-get_or, All-In, All-from_In}
 use Rattle.house_model.proofs.SeedLemmas.{persons-drawn, cluster_of-drawn}
 use Rattle.cluster_draw.specs.Placings.{name_of, names_of, ArePlacings}
 use Rattle.cluster_draw.specs.declared.placings.Placing.{Placing}

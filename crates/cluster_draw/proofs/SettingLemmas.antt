@@ -4,14 +4,13 @@ use Rattle.house_base.specs.Name.{is_name}
 use Rattle.house_base.specs.declared.plan.Person.{Person}
 use Rattle.house_base.specs.declared.plan.Owner.{Owner}
 use Rattle.house_base.specs.Grid.{Square, cell}
-use Rattle.house_base.specs.Setting.{Setting, owner_from}
-use Rattle.house_model.specs.Report.{name_at}
-use Rattle.house_model.specs.Text.{Text}
-use Rattle.house_model.specs.Register.{Register, IsRegister, names, persons, owners_from, among, square_of, name_pair, pair_among, reviewer_at}
+use Rattle.house_base.specs.Setting.{Setting, owner_from, name_at}
+use Rattle.house_base.specs.Text.{Text, among}
+use Rattle.house_base.proofs.AmongLemmas.{among-In}
+use Rattle.house_base.proofs.InOrderLemmas.{In, All-In, map-In}
+use Rattle.house_model.specs.Register.{Register, IsRegister, names, persons, owners_from, square_of, name_pair, pair_among, reviewer_at}
 use Rattle.house_model.specs.Seeds.{open_setting_in, setting_in}
-use Rattle.house_model.specs.Text.{Text}
-use Rattle.house_model.proofs.GroupLemmas.{among-In, firsts-In}
-use Rattle.house_model.proofs.InOrderLemmas.{In, All-In, map-In}
+use Rattle.house_model.proofs.GroupLemmas.{firsts-In}
 use Rattle.house_model.proofs.RegisterLemmas.{their_persons}
 use Rattle.house_model.proofs.OrderedLemmas.{IsOrder, people_in, IsSetting-setting_in}
 use Rattle.house_model.proofs.RegisterSettingLemmas.{MakesSetting}

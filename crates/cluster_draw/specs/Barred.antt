@@ -3,8 +3,8 @@ use Rattle.std.specs.List.{list_any}
 use Rattle.std.specs.Option.{option_map_or}
 use Rattle.house_base.specs.declared.plan.Person.{Person}
 use Rattle.house_base.specs.declared.plan.Owner.{Owner}
+use Rattle.house_base.specs.Text.{Text}
 use Rattle.house_model.specs.Register.{pair_among}
-use Rattle.house_model.specs.Text.{Text}
 
 -- the name of the applicant at a place
 abbrev pub name_in : List Person → ℕ → Text

@@ -4,8 +4,8 @@ use Rattle.std.specs.Str.{bytes_eq}
 use Rattle.house_base.specs.declared.limits.TheConstants.{MOST_APPLICANTS}
 use Rattle.house_base.specs.declared.plan.Person.{Person}
 use Rattle.house_base.specs.declared.plan.Owner.{Owner}
+use Rattle.house_base.specs.Text.{Text}
 use Rattle.house_model.specs.Register.{Register, names, persons, cluster_of}
-use Rattle.house_model.specs.Text.{Text}
 use Rattle.register_book.specs.Held.{text_at}
 use Rattle.cluster_draw.specs.declared.placings.Placing.{Placing}
 

@@ -1,8 +1,8 @@
 //! The plan that a register gives.
 
 ghost use Rattle.std.specs.Prelude.{◌≡◌, ◌≤◌, ◌↔◌, not, ◌&&◌, ◌||◌, ◌==◌, nat_lt, All, IsTrue, IfOk, OnOk, is_some, length};
+ghost use Rattle.peer_selection.specs.Profile.{denominator};
 ghost use Rattle.house_model.specs.Naming.{HasNamesOf};
-ghost use Rattle.house_model.specs.Profile.{denominator};
 ghost use Rattle.house_model.specs.Register.{IsRegister, all_placed};
 ghost use Rattle.house_model.specs.Said.{denominator_of};
 ghost use Rattle.house_model.specs.Seeds.{seeded_setting};

@@ -10,12 +10,13 @@ use Rattle.house_base.specs.declared.limits.TheConstants.{MOST_POINTS}
 use Rattle.house_base.specs.declared.review.ReviewLine.{ReviewLine}
 use Rattle.house_base.specs.declared.answer.Reason.{Reason}
 use Rattle.house_base.specs.declared.answer.Reason.TheVariants as reason
+use Rattle.house_base.specs.Text.{Text}
 use Rattle.house_model.specs.declared.command.Command.{Command}
 use Rattle.house_model.specs.declared.command.Command.TheVariants as command
 use Rattle.house_model.specs.declared.verb.Verb.{Verb}
 use Rattle.house_model.specs.declared.verb.Verb.TheVariants as verb
 use Rattle.house_model.specs.Faults.{ill_formed, names_are_formed, digest_is_formed}
-use Rattle.house_model.specs.Text.{Text, words, word, is_blank}
+use Rattle.house_model.specs.Text.{words, word, is_blank}
 use Rattle.house_model.specs.Verbs.{verb_in, has_count, is_house, is_review}
 use Rattle.command_text.specs.Arguments.{argument, are_ill_formed, are_misnamed, are_out_of_range, Says, IsSaid, IsFaulty}
 use Rattle.command_text.specs.Reading.{reading_fault, numbers_are_within, Carries, IsCommandLine, IsBadLine, name_in, review_in}

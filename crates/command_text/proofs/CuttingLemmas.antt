@@ -5,7 +5,8 @@ use Rattle.std.specs.Option.{option_to_list}
 use Rattle.std.proofs.lemmas.List.{append-nil, take_all}
 use Rattle.std.proofs.lemmas.List.Elements.{All-append, All-nil}
 use Rattle.std.proofs.Math.Dec.{eqb-suc-zero}
-use Rattle.house_model.specs.Text.{Text, Lines, lines, is_empty, without_return}
+use Rattle.house_base.specs.Text.{Text}
+use Rattle.house_model.specs.Text.{Lines, lines, is_empty, without_return}
 use Rattle.house_model.specs.Heard.{whole_lines}
 use Rattle.command_text.specs.Held.{HasNoFeed}
 use Rattle.command_text.specs.Cutting.{Cutting, Feeding, Feeds, EndsLine, GoesOn, IsWholeLine, AreFed, fresh, last_after, used_bytes, ended_lines, ended_line, rest_of}

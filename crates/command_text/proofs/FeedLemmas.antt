@@ -13,8 +13,9 @@ use borrow.Author.Tests.{ltb-true}
 use Rattle.std.proofs.lemmas.List.Splits.{slice_split_first, slice_split_none, slice_split_at, length-slice_split}
 use Rattle.std.proofs.Math.Dec.{eqb-suc-zero}
 use Rattle.memchr.specs.Find.{IsFirstByte, Nowhere, Passes, is_byte}
+use Rattle.house_base.specs.Text.{Text}
 use Rattle.house_model.specs.Heard.{whole_lines, without_last}
-use Rattle.house_model.specs.Text.{Text, lines, without_return, without_last_empty, is_empty}
+use Rattle.house_model.specs.Text.{lines, without_return, without_last_empty, is_empty}
 use Rattle.command_text.specs.Held.{HasNoFeed}
 
 -- whether a byte ends a line

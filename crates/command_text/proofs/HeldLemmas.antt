@@ -3,7 +3,7 @@ use Rattle.std.proofs.Common.{◌≡◌, ℕ, zero, suc, ◌+◌, ◌-◌, ◌<�
 use Rattle.std.specs.Prelude.{slice_get}
 use Rattle.std.proofs.Math.Seq.{drop-append_seam}
 use Rattle.std.proofs.lemmas.List.{take_all, take-append-le, drop-append-le}
-use Rattle.house_model.specs.Text.{Text}
+use Rattle.house_base.specs.Text.{Text}
 use Rattle.command_text.specs.Held.{RiseTo, parts_from}
 
 pub length-parts_from : (from : ℕ) (ends : List ℕ) (bytes : Text) → length (parts_from from ends bytes) ≡ length ends

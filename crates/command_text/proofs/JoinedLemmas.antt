@@ -15,7 +15,8 @@ use Rattle.hex.proofs.HexLemmas.{length-encode_with}
 use Rattle.house_base.specs.Name.{is_name, is_name_byte}
 use Rattle.house_base.specs.Seed.{is_seed, is_seed_byte}
 use Rattle.house_base.proofs.Digits.{numerals}
-use Rattle.house_model.specs.Text.{Text, words, is_gap, is_empty}
+use Rattle.house_base.specs.Text.{Text}
+use Rattle.house_model.specs.Text.{words, is_gap, is_empty}
 use Rattle.house_model.specs.Verbs.{is_hex64}
 use Rattle.command_text.proofs.DigestLemmas.{is_small_digit}
 

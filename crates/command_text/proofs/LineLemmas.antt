@@ -7,7 +7,8 @@ use Rattle.command_text.proofs.WordLemmas.{no_word}
 use Rattle.std.proofs.lemmas.List.Splits.{slice_split-cons_no}
 use Rattle.std.specs.Option.{option_map_or}
 use Rattle.std.specs.Str.{bytes_eq}
-use Rattle.house_model.specs.Text.{Text, words, word, is_blank, is_empty, is_gap}
+use Rattle.house_base.specs.Text.{Text}
+use Rattle.house_model.specs.Text.{words, word, is_blank, is_empty, is_gap}
 use Rattle.house_model.specs.Verbs.{is_review, verb_of, verb_in}
 
 -- the first word of a line

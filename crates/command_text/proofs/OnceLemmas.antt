@@ -7,10 +7,11 @@ use Rattle.hex.proofs.HexLemmas.{decode_of-same}
 use Rattle.house_base.specs.declared.call.Call.{Call}
 use Rattle.house_base.specs.declared.answer.Reason.{Reason}
 use Rattle.house_base.specs.declared.limits.TheConstants.{MOST_SEATS, FEWEST_CLUSTERS, MOST_CLUSTERS, MOST_REVIEWS}
+use Rattle.house_base.specs.Text.{Text}
 use Rattle.house_model.specs.declared.command.Command.{Command}
 use Rattle.house_model.specs.declared.command.Command.TheVariants as command
 use Rattle.house_model.specs.Commands.{verb_of_command}
-use Rattle.house_model.specs.Text.{Text, is_blank}
+use Rattle.house_model.specs.Text.{is_blank}
 use Rattle.house_model.specs.Verbs.{is_house, is_review}
 use Rattle.command_text.specs.declared.line.Line.{Line}
 use Rattle.command_text.specs.declared.line.Line.TheVariants as kind

@@ -13,13 +13,14 @@ use Rattle.house_base.specs.Seed.{is_seed}
 use Rattle.house_base.specs.declared.call.Call.{Call}
 use Rattle.house_base.specs.declared.limits.TheConstants.{MOST_SEATS, FEWEST_CLUSTERS, MOST_CLUSTERS, MOST_REVIEWS}
 use Rattle.house_base.proofs.Digits.{is_canonical-decimal, numerals}
+use Rattle.house_base.specs.Text.{Text}
 use Rattle.house_model.specs.declared.command.Command.{Command}
 use Rattle.house_model.specs.declared.command.Command.TheVariants as command
 use Rattle.house_model.specs.declared.verb.Verb.{Verb}
 use Rattle.house_model.specs.declared.verb.Verb.TheVariants as verb
 use Rattle.house_model.specs.Faults.{is_within}
 use Rattle.house_model.specs.Said.{number}
-use Rattle.house_model.specs.Text.{Text, words}
+use Rattle.house_model.specs.Text.{words}
 use Rattle.house_model.specs.Verbs.{verb_of}
 use Rattle.command_text.specs.Arguments.{IsSaid}
 use Rattle.command_text.specs.Printing.{IsFormed, IsInBounds, command_line, command_words}

@@ -8,6 +8,7 @@ use Rattle.house_base.specs.Seed.{is_seed}
 use Rattle.house_base.specs.declared.limits.TheConstants.{MOST_SEATS, FEWEST_CLUSTERS, MOST_CLUSTERS, MOST_REVIEWS}
 use Rattle.house_base.specs.declared.answer.Reason.{Reason}
 use Rattle.house_base.specs.declared.answer.Reason.TheVariants as reason
+use Rattle.house_base.specs.Text.{Text}
 use Rattle.house_model.specs.declared.command.Command.{Command}
 use Rattle.house_model.specs.declared.command.Command.TheVariants as command
 use Rattle.house_model.specs.declared.verb.Verb.{Verb}
@@ -15,7 +16,6 @@ use Rattle.house_model.specs.declared.verb.Verb.TheVariants as verb
 use Rattle.house_model.specs.Commands.{verb_of_command}
 use Rattle.house_model.specs.Faults.{is_within}
 use Rattle.house_model.specs.Said.{number}
-use Rattle.house_model.specs.Text.{Text}
 use Rattle.house_model.specs.Verbs.{has_count, is_hex64}
 
 -- the word at an index among those that follow the first; the empty word where there is none

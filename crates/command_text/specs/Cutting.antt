@@ -1,7 +1,8 @@
 -- A text that comes in pieces, and its lines.
 use Rattle.std.specs.Prelude.{◌≡◌, ℕ, ◌+◌, ◌++◌, Bool, List, [], ◌∷◌, Option, Some, None, MatchBool, length, take, if◌then◌else◌}
 use Rattle.std.specs.Option.{option_map, option_to_list}
-use Rattle.house_model.specs.Text.{Text, Lines, is_empty, without_return}
+use Rattle.house_base.specs.Text.{Text}
+use Rattle.house_model.specs.Text.{Lines, is_empty, without_return}
 use Rattle.command_text.specs.Held.{HasNoFeed}
 
 -- the bytes that were fed since the last line feed, and those of the line that the last feed ended, if it did

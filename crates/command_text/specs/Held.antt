@@ -1,6 +1,7 @@
 -- How lines are held in one buffer.
 use Rattle.std.specs.Prelude.{◌≡◌, ℕ, ◌-◌, ◌≤◌, ◌==◌, false, All, List, [], ◌∷◌, length, take, drop}
-use Rattle.house_model.specs.Text.{Text, Lines}
+use Rattle.house_base.specs.Text.{Text}
+use Rattle.house_model.specs.Text.{Lines}
 
 -- a text without a line feed
 abbrev pub HasNoFeed : Text → Type 0

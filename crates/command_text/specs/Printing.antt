@@ -6,9 +6,9 @@ use Rattle.hex.specs.Hex.{IsBytes, encode_lower}
 use Rattle.house_base.specs.Name.{is_name}
 use Rattle.house_base.specs.Seed.{is_seed}
 use Rattle.house_base.specs.declared.limits.TheConstants.{MOST_CLUSTERS}
+use Rattle.house_base.specs.Text.{Text}
 use Rattle.house_model.specs.declared.command.Command.{Command}
 use Rattle.house_model.specs.declared.command.Command.TheVariants as command
-use Rattle.house_model.specs.Text.{Text}
 use Rattle.command_text.specs.declared.text.Word.{Word}
 use Rattle.command_text.specs.declared.text.Word.TheVariants as word
 

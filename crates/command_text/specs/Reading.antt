@@ -7,6 +7,7 @@ use Rattle.house_base.specs.declared.limits.TheConstants.{MOST_SEATS, FEWEST_CLU
 use Rattle.house_base.specs.declared.answer.Reason.{Reason}
 use Rattle.house_base.specs.declared.answer.Reason.TheVariants as reason
 use Rattle.house_base.specs.declared.review.ReviewLine.{ReviewLine}
+use Rattle.house_base.specs.Text.{Text}
 use Rattle.house_model.specs.declared.command.Command.{Command}
 use Rattle.house_model.specs.declared.command.Command.TheVariants as command
 use Rattle.house_model.specs.declared.verb.Verb.{Verb}
@@ -14,7 +15,7 @@ use Rattle.house_model.specs.declared.verb.Verb.TheVariants as verb
 use Rattle.house_model.specs.Commands.{verb_of_command}
 use Rattle.house_model.specs.Faults.{ill_formed, is_within, names_are_formed}
 use Rattle.house_model.specs.Said.{number, applicant_in, pair_in, place_in}
-use Rattle.house_model.specs.Text.{Text, words, word, is_blank}
+use Rattle.house_model.specs.Text.{words, word, is_blank}
 use Rattle.house_model.specs.Verbs.{verb_in, is_house, is_review}
 use Rattle.command_text.specs.declared.line.Line.{Line}
 use Rattle.command_text.specs.declared.line.Line.TheVariants as kind

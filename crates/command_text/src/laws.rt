@@ -2,8 +2,9 @@
 
 ghost use Rattle.std.specs.Prelude.{◌≡◌, ◌++◌, List};
 ghost use Rattle.std.specs.Option.{option_to_list};
+ghost use Rattle.house_base.specs.Text.{Text};
 ghost use Rattle.house_model.specs.Heard.{whole_lines};
-ghost use Rattle.house_model.specs.Text.{Text, lines};
+ghost use Rattle.house_model.specs.Text.{lines};
 ghost use Rattle.house_model.specs.declared.command.Command.{Command};
 ghost use Rattle.command_text.specs.declared.line.Line.{Line};
 ghost use Rattle.command_text.specs.declared.line.Line.TheVariants as kind;

@@ -1,7 +1,7 @@
 use Rattle.std.proofs.Common.{◌≡◌, ℕ, ◌+◌, Bool, true, false, cond, ap, arith}
-use Rattle.house_model.specs.Counting.{count_below, sum_below}
-use Rattle.house_model.specs.Shortage.{Demand, Places, needed_in, room_outside, allowed, capacity}
-use Rattle.house_model.proofs.CountingLemmas.{one_if, count_below-add_one, sum_below-same, sum_below-plus, sum_below-add_one}
+use Rattle.peer_selection.specs.Counting.{count_below, sum_below}
+use Rattle.peer_selection.specs.Shortage.{Demand, Places, needed_in, room_outside, allowed, capacity}
+use Rattle.peer_selection.proofs.CountingLemmas.{one_if, count_below-add_one, sum_below-same, sum_below-plus, sum_below-add_one}
 
 -- A count takes one place more, or skips it.
 

@@ -1,6 +1,6 @@
 use Rattle.std.specs.Prelude.{ℕ, Bool, false, List, slice_index, slice_index_or}
 use Rattle.house_base.specs.Grid.{Square, cell}
-use Rattle.house_model.specs.Shortage.{Demand, Places}
+use Rattle.peer_selection.specs.Shortage.{Demand, Places}
 
 -- a set of reviewers and a set of proposals, a truth value for each place
 pub record Sides : Type 0 where

@@ -1,7 +1,7 @@
 //! A cut: a set of reviewers and a set of proposals.
 
 ghost use Rattle.std.specs.Prelude.{◌≡◌, ◌^◌, ◌<◌, length, vec_len};
-ghost use Rattle.house_model.specs.Shortage.{Places};
+ghost use Rattle.peer_selection.specs.Shortage.{Places};
 ghost use Rattle.cut_gap.specs.Cut.{marked};
 
 use std::marker::Model;

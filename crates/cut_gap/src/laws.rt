@@ -1,11 +1,11 @@
 //! Laws of cuts, over all that may be asked. Each is proved once, here, and the functions have nothing to do.
 
-ghost use Rattle.std.specs.Prelude.{◌≡◌, ℕ, ◌+◌, ◌<◌};
+ghost use Rattle.std.specs.Prelude.{◌≡◌, ℕ, ◌+◌};
 ghost use Rattle.house_base.specs.Setting.{Setting};
-ghost use Rattle.house_model.specs.Counting.{sum_below};
-ghost use Rattle.house_model.specs.Profile.{Pairs, is_valid};
-ghost use Rattle.house_model.specs.Shortage.{Demand, Places, needed_in, room_outside, allowed, capacity, IsShortage};
-ghost use Rattle.house_model.specs.Shortage.{is_met, assignment_demand};
+ghost use Rattle.peer_selection.specs.Counting.{sum_below};
+ghost use Rattle.peer_selection.specs.Profile.{Pairs, is_valid};
+ghost use Rattle.peer_selection.specs.Shortage.{Demand, Places, needed_in, room_outside, allowed, capacity};
+ghost use Rattle.peer_selection.specs.Shortage.{is_met, assignment_demand};
 
 /// A valid assignment is one that meets what is asked of assignments.
 pub fn valid_assignments_meet_all()
@@ -16,12 +16,4 @@ pub fn valid_assignments_meet_all()
 pub fn gap_and_capacity_are_all_needs()
     ensures { (d : Demand) (a b : Places)
         → capacity d a b + needed_in d a ≡ sum_below d.need d.side + (room_outside d b + allowed d a b) }
-{}
-
-/// There is at most one shortage that the rules print.
-pub fn shortage_is_determined()
-    ensures reviewers { (d : Demand) (a b c e : Places) → IsShortage d a b → IsShortage d c e
-        → (r : ℕ) → r < d.side → a r ≡ c r }
-    ensures proposals { (d : Demand) (a b c e : Places) → IsShortage d a b → IsShortage d c e
-        → (p : ℕ) → p < d.side → b p ≡ e p }
 {}

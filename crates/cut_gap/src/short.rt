@@ -4,8 +4,8 @@ ghost use Rattle.std.specs.Prelude.{◌≡◌, ℕ, ◌*◌, ◌^◌, ◌<◌, �
 ghost use Rattle.std.specs.Prelude.{◌↔◌, ◌&&◌, length, slice_index, IsTrue, if◌then◌else◌};
 ghost use Rattle.house_base.specs.Grid.{cell};
 ghost use Rattle.house_base.specs.declared.limits.TheConstants.{MOST_APPLICANTS};
-ghost use Rattle.house_model.specs.Counting.{count_below, sum_below};
-ghost use Rattle.house_model.specs.Shortage.{IsShort};
+ghost use Rattle.peer_selection.specs.Counting.{count_below, sum_below};
+ghost use Rattle.peer_selection.specs.Shortage.{IsShort};
 ghost use Rattle.cut_gap.specs.Cut.{marked, demand_of};
 
 use crate::cut::Cut;

@@ -4,10 +4,10 @@ use Rattle.std.proofs.lemmas.Bool.Decides.{nat_tests}
 use Rattle.std.proofs.lemmas.List.{get_or-map, get_or-set_same, get_or-set_other}
 use mir.Val.{bool_byte}
 use Rattle.house_base.specs.declared.limits.TheConstants.{DOLLAR, MOST_OWN, MOST_REVIEWS}
-use Rattle.house_model.specs.Counting.{count_below, sum_below}
-use Rattle.house_model.specs.Split.{weights, base_at, remainder_at, left_over, comes_before, cents_at}
-use Rattle.house_model.proofs.CountingLemmas.{one_if, count_below-add_one, count_below-same, count_below-mono, count_below-more, sum_below-term, sum_below-same}
-use Rattle.house_model.proofs.SplitLemmas.{left_over-less, cents-sum, sum_below-items}
+use Rattle.peer_selection.specs.Counting.{count_below, sum_below}
+use Rattle.peer_selection.specs.Split.{weights, base_at, remainder_at, left_over, comes_before, cents_at}
+use Rattle.peer_selection.proofs.CountingLemmas.{one_if, count_below-add_one, count_below-same, count_below-mono, count_below-more, sum_below-term, sum_below-same}
+use Rattle.peer_selection.proofs.SplitLemmas.{left_over-less, cents-sum, sum_below-items}
 use Rattle.dollar_split.specs.Weighed.{is_silent, priority_of, is_among_first, extra_at, count_reaching}
 
 -- Weights and shares.

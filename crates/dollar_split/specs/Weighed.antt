@@ -1,8 +1,8 @@
 use Rattle.std.specs.Prelude.{◌≡◌, ℕ, ◌+◌, ◌-◌, ◌*◌, ◌≤◌, Bool, List, length, sum, slice_index, All, ◌==◌, nat_le, nat_lt, if◌then◌else◌}
 use Rattle.std.specs.List.{list_all}
 use Rattle.house_base.specs.declared.limits.TheConstants.{MOST_OWN, MOST_POINTS, MOST_REVIEWS}
-use Rattle.house_model.specs.Counting.{count_below}
-use Rattle.house_model.specs.Split.{weights}
+use Rattle.peer_selection.specs.Counting.{count_below}
+use Rattle.peer_selection.specs.Split.{weights}
 
 -- whether all points are 0
 abbrev pub is_silent : List ℕ → Bool

@@ -1,7 +1,7 @@
 //! The largest remainder rule: whole shares first, then the cents left over to the greatest remainders.
 
 ghost use Rattle.std.specs.Prelude.{◌≡◌, ℕ, ◌+◌, ◌*◌, ◌<◌, ◌≤◌, nat_le, if◌then◌else◌, IfSome, All, length, slice_index, sum};
-ghost use Rattle.house_model.specs.Split.{weights, base_at, remainder_at, left_over, cents_at};
+ghost use Rattle.peer_selection.specs.Split.{weights, base_at, remainder_at, left_over, cents_at};
 ghost use Rattle.dollar_split.specs.Weighed.{IsSplit, IsWeighed, is_silent, priority_of, is_among_first, extra_at, count_reaching};
 
 use house_base::limits::{DOLLAR, MOST_OWN, MOST_POINTS, MOST_REVIEWS};

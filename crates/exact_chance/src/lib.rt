@@ -3,8 +3,8 @@
 #![tactic(auto)]
 
 ghost use Rattle.std.specs.Prelude.{◌≡◌, ℕ, ◌+◌, ◌/◌, ◌%◌, ◌<◌, ◌≤◌, nat_le};
-ghost use Rattle.house_model.specs.Counting.{count_below};
-ghost use Rattle.house_model.specs.Marks.{marks};
+ghost use Rattle.peer_selection.specs.Counting.{count_below};
+ghost use Rattle.peer_selection.specs.Marks.{marks};
 
 /// The chance, over `den`, of a rank in a cluster with this quota, over `den` too: how many of the `den` draws give the
 /// cluster at least as many seats as the rank says.

@@ -1,7 +1,7 @@
 use Rattle.std.proofs.Common.{◌≡◌, ℕ, ◌+◌, ◌<◌, ◌≤◌, Bool, true, false, List, length, get_or, set, sym, ap, ◌∙◌, inl, inr, arith}
 use Rattle.std.proofs.lemmas.Bool.{cases_eq, cases_lt}
 use Rattle.std.proofs.lemmas.List.{get_or-set_same, get_or-set_other}
-use Rattle.house_model.specs.Counting.{count_below}
+use Rattle.peer_selection.specs.Counting.{count_below}
 use Rattle.first_assign.proofs.StepLemmas.{count_passes, count_fails}
 
 -- Counts of columns, row by row.

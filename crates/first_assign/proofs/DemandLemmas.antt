@@ -1,10 +1,10 @@
 use Rattle.std.proofs.Common.{◌≡◌, ℕ, ◌<◌, Bool, not, ◌&&◌, ◌||◌, cond, eqb, List, get_or, refl, sym, ap, ◌∙◌, subst, arith}
 use Rattle.house_base.specs.Grid.{Square, cell}
 use Rattle.house_base.specs.Setting.{Setting, size, need, may}
-use Rattle.house_model.specs.Counting.{count_below, all_below}
-use Rattle.house_model.specs.Profile.{Pairs, is_valid}
-use Rattle.house_model.specs.Shortage.{Demand, Places, is_met, assignment_demand, needed_in, room_outside, allowed, capacity, IsShortage}
-use Rattle.house_model.proofs.CountingLemmas.{count_below-same, sum_below-same, all_below-same}
+use Rattle.peer_selection.specs.Counting.{count_below, all_below}
+use Rattle.peer_selection.specs.Profile.{Pairs, is_valid}
+use Rattle.peer_selection.specs.Shortage.{Demand, Places, is_met, assignment_demand, needed_in, room_outside, allowed, capacity, IsShortage}
+use Rattle.peer_selection.proofs.CountingLemmas.{count_below-same, sum_below-same, all_below-same}
 use Rattle.cut_gap.specs.Cut.{demand_of}
 
 -- What is asked of pairs, where it is said by other lists and squares with the same content.

@@ -1,7 +1,7 @@
 use Rattle.std.proofs.Common.{◌≡◌, ℕ, ◌+◌, ◌-◌, ◌<◌, ◌≤◌, Bool, false, ap, ◌∙◌, inl, inr, arith}
 use Rattle.std.specs.Prelude.{Option, Some, None, IfNone}
 use Rattle.std.proofs.lemmas.Bool.{cases_lt}
-use Rattle.house_model.proofs.RowLemmas.{round_cases}
+use Rattle.peer_selection.proofs.RowLemmas.{round_cases}
 use Rattle.first_assign.specs.Settling.{proposal_at}
 
 -- The proposals behind a reviewer, and those from the first place on.

@@ -6,13 +6,12 @@ use Rattle.std.proofs.lemmas.List.Folds.{list_any_more}
 use Rattle.std.proofs.lemmas.Option.{slice_get_within, get_or_from_slice_get}
 use Rattle.house_base.specs.Name.{is_name}
 use Rattle.house_base.specs.declared.plan.Owner.{Owner}
-use Rattle.house_base.specs.Setting.{Setting, IsSetting, size, names_of}
+use Rattle.house_base.specs.Setting.{Setting, IsSetting, size, names_of, name_at}
 use Rattle.house_base.proofs.Settings.{owner_from-first}
-use Rattle.house_model.specs.Report.{name_at}
-use Rattle.house_model.specs.Text.{Text}
+use Rattle.house_base.specs.Text.{Text}
+use Rattle.house_base.proofs.InOrderLemmas.{In-from_Contains, InOrder-from_AllPairs, same_element}
+use Rattle.house_base.proofs.AmongLemmas.{bytes_eq-same, bytes_eq-other}
 use Rattle.house_model.specs.Register.{name_pair, pair_among, reviewer_at}
-use Rattle.house_model.proofs.InOrderLemmas.{In-from_Contains, InOrder-from_AllPairs, same_element}
-use Rattle.house_model.proofs.GroupLemmas.{bytes_eq-same, bytes_eq-other}
 use Rattle.house_model.proofs.ReviewerLemmas.{cases_owner, reviewer_at-some, reviewer_at-none, no_name, name_at-slice_get}
 
 -- A person and a proposal by their names: where one more pair is marked.

@@ -7,9 +7,9 @@ use Rattle.house_base.specs.declared.limits.TheConstants.{MOST_OWN}
 use Rattle.house_base.specs.declared.plan.Owner.{Owner}
 use Rattle.house_base.specs.Setting.{Setting, IsSetting, StandInTurn, size, need, owner_from}
 use Rattle.house_base.proofs.Settings.{StandInTurn-le}
-use Rattle.house_model.specs.Counting.{sum_below}
-use Rattle.house_model.proofs.CountingLemmas.{sum_below-none, sum_below-same, sum_below-plus, sum_below-only, sum_below-const}
-use Rattle.house_model.proofs.SplitLemmas.{sum_below-items}
+use Rattle.peer_selection.specs.Counting.{sum_below}
+use Rattle.peer_selection.proofs.CountingLemmas.{sum_below-none, sum_below-same, sum_below-plus, sum_below-only, sum_below-const}
+use Rattle.peer_selection.proofs.SplitLemmas.{sum_below-items}
 
 -- All persons together owe as many reviews as all applicants get.
 

@@ -8,11 +8,11 @@ use Rattle.house_base.specs.declared.limits.TheConstants.{MOST_OWN}
 use Rattle.house_base.specs.declared.plan.Owner.{Owner}
 use Rattle.house_base.specs.Setting.{Setting, IsSetting, size}
 use Rattle.house_base.proofs.Settings.{end-StandInTurn}
+use Rattle.house_base.specs.Text.{Text}
+use Rattle.house_base.proofs.InOrderLemmas.{In, In-get_or, In-Contains, In-from_Contains, All-In, map-In}
+use Rattle.peer_selection.proofs.CountingLemmas.{below_suc}
 use Rattle.house_model.specs.Register.{Register, IsRegister, persons, person_of}
-use Rattle.house_model.specs.Text.{Text}
 use Rattle.house_model.proofs.AtIndexLemmas.{same_index}
-use Rattle.house_model.proofs.CountingLemmas.{below_suc}
-use Rattle.house_model.proofs.InOrderLemmas.{In, In-get_or, In-Contains, In-from_Contains, All-In, map-In}
 use Rattle.house_model.proofs.GroupLemmas.{firsts-In}
 use Rattle.house_model.proofs.RegisterLemmas.{their_persons}
 use Rattle.house_model.proofs.RegisterPeopleLemmas.{Apart-persons}

@@ -2,14 +2,14 @@ use Rattle.std.proofs.Common.{◌≡◌, ◌≢◌, ℕ, zero, suc, ◌+◌, ◌
 use Rattle.std.proofs.lemmas.Bool.{cases_Bool, cases_eq, cases_lt, eq-eqb, ne_eqb, true≢false}
 use Rattle.house_base.specs.Grid.{cell}
 use Rattle.house_base.specs.Setting.{Setting, size, need, may}
-use Rattle.house_model.specs.Counting.{count_below}
-use Rattle.house_model.specs.FirstAssignment.{IsFirst}
-use Rattle.house_model.specs.Profile.{Pairs, is_valid}
-use Rattle.house_model.specs.Shortage.{is_met}
-use Rattle.house_model.proofs.CountingLemmas.{one_if, count_below-add_one, count_below-longer, count_below-passes, count_below-same}
-use Rattle.house_model.proofs.FirstAssignmentLemmas.{count_at, none_before, same_row_at}
-use Rattle.house_model.proofs.RowLemmas.{round-apart, round-below}
-use Rattle.house_model.proofs.ValidLemmas.{is_valid-each}
+use Rattle.peer_selection.specs.Counting.{count_below}
+use Rattle.peer_selection.specs.FirstAssignment.{IsFirst}
+use Rattle.peer_selection.specs.Profile.{Pairs, is_valid}
+use Rattle.peer_selection.specs.Shortage.{is_met}
+use Rattle.peer_selection.proofs.CountingLemmas.{one_if, count_below-add_one, count_below-longer, count_below-passes, count_below-same}
+use Rattle.peer_selection.proofs.FirstAssignmentLemmas.{count_at, none_before, same_row_at}
+use Rattle.peer_selection.proofs.RowLemmas.{round-apart, round-below}
+use Rattle.peer_selection.proofs.ValidLemmas.{is_valid-each}
 use Rattle.cut_gap.specs.Cut.{demand_of}
 use Rattle.assign_flow.specs.Flow.{FlowParts, Agrees, CanHold, flow_demand, settled}
 use Rattle.first_assign.specs.Settling.{IsSet, SettlesOne, proposal_at, HoldsFrom, AgreeBefore, CanFollow, IsFlowFor, IsFlowOf, IsSettledTo, kept_within}

@@ -3,11 +3,11 @@ use Rattle.std.proofs.Common.{◌≡◌, [], ◌∷◌, refl}
 use Rattle.std.specs.Prelude.{codes}
 use Rattle.house_base.specs.Grid.{Square, cell}
 use Rattle.house_base.specs.Setting.{Setting, IsSetting, cluster_at, number_at, owner_from, need, may}
-use Rattle.house_model.specs.Counting.{count_below, all_below}
-use Rattle.house_model.specs.Profile.{Profile, is_valid}
-use Rattle.house_model.specs.Worked.{listed}
+use Rattle.peer_selection.specs.Counting.{count_below, all_below}
+use Rattle.peer_selection.specs.Profile.{Profile, is_valid}
+use Rattle.peer_selection.specs.Worked.{listed}
+use Rattle.peer_selection.proofs.WorkedLemmas.{in_one_cluster, in_rising_number}
 use Rattle.house_model.proofs.ExampleLemmas.{is_assigned_setting, IsAssigned-by_test}
-use Rattle.house_model.proofs.WorkedLemmas.{in_one_cluster, in_rising_number}
 
 abbrev pub six_persons : Square → Setting
 six_persons barred = record {

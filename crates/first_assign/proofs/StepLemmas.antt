@@ -1,9 +1,9 @@
 use Rattle.std.proofs.Common.{◌≡◌, ℕ, suc, ◌+◌, ◌-◌, ◌<◌, ◌≤◌, Bool, true, false, not, ◌&&◌, ◌||◌, ◌==◌, ap, ◌∙◌, inl, inr, arith}
 use Rattle.std.proofs.lemmas.Bool.{cases_lt, and_from, and_cases, and_left, and_right}
 use Rattle.house_base.specs.Setting.{Setting, size, need, may}
-use Rattle.house_model.specs.Counting.{count_below, all_below}
-use Rattle.house_model.specs.Profile.{is_valid}
-use Rattle.house_model.proofs.CountingLemmas.{all_below-suc, all_below-same, all_below-fails, all_below-each, all_below-from, count_below-append, count_below-none, count_below-passes, count_below-fails, count_below-same}
+use Rattle.peer_selection.specs.Counting.{count_below, all_below}
+use Rattle.peer_selection.specs.Profile.{is_valid}
+use Rattle.peer_selection.proofs.CountingLemmas.{all_below-suc, all_below-same, all_below-fails, all_below-each, all_below-from, count_below-append, count_below-none, count_below-passes, count_below-fails, count_below-same}
 
 -- Steps of the tests and counts of an assignment.
 

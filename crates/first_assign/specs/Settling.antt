@@ -1,9 +1,9 @@
 use Rattle.std.specs.Prelude.{◌≡◌, ℕ, ◌+◌, ◌%◌, ◌<◌, ◌≤◌, ◌↔◌, ◌==◌, ◌&&◌, Bool, true, false, Some, None, IsTrue, if◌then◌else◌}
 use Rattle.house_base.specs.Grid.{Square, cell}
 use Rattle.house_base.specs.Setting.{Setting, size, may}
-use Rattle.house_model.specs.Counting.{count_below}
-use Rattle.house_model.specs.Profile.{Pairs, is_valid}
-use Rattle.house_model.specs.Shortage.{is_met}
+use Rattle.peer_selection.specs.Counting.{count_below}
+use Rattle.peer_selection.specs.Profile.{Pairs, is_valid}
+use Rattle.peer_selection.specs.Shortage.{is_met}
 use Rattle.assign_flow.specs.Flow.{FlowParts, Agrees, CanHold, flow_demand, settled}
 
 -- the second square is the first one, with a value at one place

@@ -3,9 +3,9 @@
 ghost use Rattle.std.specs.Prelude.{◌≡◌, ℕ, ◌<◌, false, length, IfOk, IsTrue};
 ghost use Rattle.house_base.specs.Grid.{cell};
 ghost use Rattle.house_base.specs.Setting.{size};
-ghost use Rattle.house_model.specs.FirstAssignment.{IsFirst, first_assignment, has_assignment};
-ghost use Rattle.house_model.specs.Profile.{Pairs, is_valid};
-ghost use Rattle.house_model.specs.Shortage.{IsShortage, assignment_demand};
+ghost use Rattle.peer_selection.specs.FirstAssignment.{IsFirst, first_assignment, has_assignment};
+ghost use Rattle.peer_selection.specs.Profile.{Pairs, is_valid};
+ghost use Rattle.peer_selection.specs.Shortage.{IsShortage, assignment_demand};
 ghost use Rattle.cut_gap.specs.Cut.{marked};
 ghost use Rattle.first_assign.specs.First.{IfFirst, IfNoneIsValid};
 ghost use Rattle.first_assign.specs.Settling.{HasAllowed, IsFlowOf};

@@ -2,8 +2,8 @@
 
 ghost use Rattle.std.specs.Prelude.{◌≡◌, true, false, length, IfOk, IfNone, IfSome};
 ghost use Rattle.house_base.specs.Setting.{size};
-ghost use Rattle.house_model.specs.FirstAssignment.{has_assignment};
-ghost use Rattle.house_model.specs.Shortage.{IsShortage, assignment_demand};
+ghost use Rattle.peer_selection.specs.FirstAssignment.{has_assignment};
+ghost use Rattle.peer_selection.specs.Shortage.{IsShortage, assignment_demand};
 ghost use Rattle.cut_gap.specs.Cut.{marked};
 
 use crate::demand::{allowed, needs, rooms};

@@ -3,8 +3,8 @@
 ghost use Rattle.std.specs.Prelude.{◌≡◌, ℕ, ◌<◌, false, IsTrue, OnOk, IfOk};
 ghost use Rattle.house_base.specs.Grid.{cell};
 ghost use Rattle.house_base.specs.Setting.{size};
+ghost use Rattle.peer_selection.specs.Profile.{is_valid};
 ghost use Rattle.house_model.specs.Naming.{HasNamesOf};
-ghost use Rattle.house_model.specs.Profile.{is_valid};
 ghost use Rattle.house_model.specs.Register.{IsRegister, persons, name_pair};
 ghost use Rattle.first_assign.specs.FirstPlaces.{GivesFirstPlaces};
 

@@ -4,8 +4,8 @@ ghost use Rattle.std.specs.Prelude.{◌≡◌, ℕ, ◌+◌, ◌<◌, ◌≤◌,
 ghost use Rattle.house_base.specs.Grid.{cell};
 ghost use Rattle.house_base.specs.Setting.{size, need, may};
 ghost use Rattle.house_base.specs.declared.limits.TheConstants.{MOST_APPLICANTS};
-ghost use Rattle.house_model.specs.Counting.{count_below, all_below};
-ghost use Rattle.house_model.specs.Profile.{is_valid};
+ghost use Rattle.peer_selection.specs.Counting.{count_below, all_below};
+ghost use Rattle.peer_selection.specs.Profile.{is_valid};
 
 use house_base::limits::MOST_APPLICANTS;
 use house_base::{Grid, Plan};

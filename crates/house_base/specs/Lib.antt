@@ -7,3 +7,4 @@ pub mod Rows
 pub mod Seed
 pub mod Setting
 pub mod Tables
+pub mod Text

@@ -40,6 +40,10 @@ names_of s = map (λ person. person.name) s.people
 abbrev pub numbers_of : Setting → List ℕ
 numbers_of s = map (λ person. person.number) s.people
 
+-- the name of the applicant at a place
+unfoldable pub name_at : Setting → ℕ → List ℕ
+name_at s place = option_map_or (λ person. person.name) (slice_get s.people place) []
+
 -- the cluster of the applicant at a place; clusters count from 1
 unfoldable pub cluster_at : Setting → ℕ → ℕ
 cluster_at s place = option_map_or (λ person. person.cluster) (slice_get s.people place) 0

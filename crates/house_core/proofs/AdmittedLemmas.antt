@@ -5,11 +5,12 @@ use Rattle.std.proofs.lemmas.Bool.{true≢false}
 use Rattle.house_base.specs.declared.call.Call.{Call}
 use Rattle.house_base.specs.declared.limits.TheConstants.{MOST_CLUSTERS}
 use Rattle.house_base.specs.declared.answer.Reason.{Reason}
+use Rattle.house_base.specs.Text.{Text}
 use Rattle.house_model.specs.declared.goal.Goal.{Goal}
 use Rattle.house_model.specs.declared.verb.Verb.{Verb}
 use Rattle.house_model.specs.declared.verb.Verb.TheVariants as verb
 use Rattle.house_model.specs.Ending.{Halt}
-use Rattle.house_model.specs.Text.{Text, Lines}
+use Rattle.house_model.specs.Text.{Lines}
 use Rattle.house_model.specs.Verbs.{allows, verb_in, verb_number, is_house}
 use Rattle.house_model.specs.Register.{Register}
 use Rattle.house_model.specs.Said.{has, phase_after, seats_of, clusters_of, reviews_of}

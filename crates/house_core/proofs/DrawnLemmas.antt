@@ -10,13 +10,13 @@ use Rattle.std.proofs.lemmas.Bool.{cond-true, cond-false, false≢true, eq-eqb, 
 use Rattle.std.proofs.lemmas.Cmp.{then_total, on_total}
 use Rattle.std.proofs.lemmas.List.Sums.{sum_by-cons}
 use Rattle.std.proofs.lemmas.Option.{same_Some}
-use Rattle.house_model.specs.Counting.{numbers_below}
+use Rattle.house_base.specs.Text.{Text}
+use Rattle.house_base.proofs.AmongLemmas.{cases_text, same_text}
+use Rattle.house_base.proofs.InOrderLemmas.{In, In-map, map-In, In-get_or}
+use Rattle.peer_selection.specs.Counting.{numbers_below}
+use Rattle.peer_selection.proofs.CountingLemmas.{length-numbers_below, get_or-numbers_below}
 use Rattle.house_model.specs.Register.{Register, persons}
 use Rattle.house_model.specs.Seeds.{person_key, key_cmp, is_smaller_key, key_rank, drawn_persons}
-use Rattle.house_model.specs.Text.{Text}
-use Rattle.house_model.proofs.CountingLemmas.{length-numbers_below, get_or-numbers_below}
-use Rattle.house_model.proofs.GroupLemmas.{cases_text, same_text}
-use Rattle.house_model.proofs.InOrderLemmas.{In, In-map, map-In, In-get_or}
 use Rattle.house_model.proofs.RegisterPeopleLemmas.{length-sum_by}
 
 -- Keys are in a total order, in which only keys of one name tie.

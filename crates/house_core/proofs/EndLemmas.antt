@@ -11,18 +11,18 @@ use Rattle.house_base.specs.declared.call.Call.{Call}
 use Rattle.house_base.specs.declared.phase.Phase.{Phase}
 use Rattle.house_base.specs.declared.phase.Phase.TheVariants as phase
 use Rattle.house_base.specs.Grid.{cell}
+use Rattle.peer_selection.specs.Profile.{denominator, profile_on}
 use Rattle.house_model.specs.declared.goal.Goal.{Goal}
 use Rattle.house_model.specs.declared.goal.Goal.TheVariants as goal
 use Rattle.house_model.specs.declared.verb.Verb.TheVariants as verb
 use Rattle.house_model.specs.Ending.{Ended, Halt, ended, halted, is_drawn, last_ended, stop_of}
 use Rattle.house_model.specs.Faults.{looks_at_pairs}
-use Rattle.house_model.specs.Profile.{denominator}
 use Rattle.house_model.specs.Report.{OutcomeParts, outcome_of}
 use Rattle.house_model.specs.Reviews.{asides_of, points_of, profile}
 use Rattle.house_model.specs.Runs.{halt}
 use Rattle.house_model.specs.Said.{has, phase_after, seats_of, clusters_of, reviews_of, setting, run_pairs, draw_of, denominator_of}
 use Rattle.house_model.specs.Text.{Lines}
-use Rattle.review_desk.specs.Desk.{desk_profile, points_at, profile_on}
+use Rattle.review_desk.specs.Desk.{desk_profile, points_at}
 use Rattle.seat_quota.specs.Tally.{DeskTotals, IsTally}
 use Rattle.house_core.specs.declared.round.Round.{Round}
 use Rattle.house_core.specs.declared.round.Stop.{Stop}

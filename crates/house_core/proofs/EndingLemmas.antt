@@ -3,7 +3,8 @@ use Rattle.std.specs.Prelude.{is_some}
 use Rattle.std.specs.Option.{option_map_or}
 use Rattle.std.proofs.lemmas.List.{append-nil}
 use Rattle.std.proofs.lemmas.Option.{some_pair_parts}
-use Rattle.house_model.specs.Text.{Text, Lines}
+use Rattle.house_base.specs.Text.{Text}
+use Rattle.house_model.specs.Text.{Lines}
 use Rattle.house_model.specs.Ending.{Halt, Rule, stop_after, stop_of, in_force_after, in_force}
 
 -- no stop here or further on

@@ -2,8 +2,9 @@ use Rattle.std.proofs.Common.{◌≡◌, ◌≢◌, ℕ, ◌<◌, ◌+◌, ◌-�
 use Rattle.house_base.specs.Answer.{raised}
 use Rattle.house_base.specs.declared.answer.Reason.{Reason}
 use Rattle.house_base.specs.declared.answer.Took.{Took}
+use Rattle.house_base.specs.Text.{Text}
 use Rattle.house_model.specs.declared.goal.Goal.{Goal}
-use Rattle.house_model.specs.Text.{Text, Lines}
+use Rattle.house_model.specs.Text.{Lines}
 use Rattle.house_model.specs.Ending.{Halt, in_force, stop_of}
 use Rattle.house_model.specs.Runs.{halt}
 use Rattle.house_core.specs.declared.round.Shortage.{Shortage}

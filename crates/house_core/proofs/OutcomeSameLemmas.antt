@@ -2,19 +2,18 @@
 use Rattle.std.proofs.Common.{◌≡◌, ℕ, suc, ◌+◌, ◌-◌, ◌*◌, ◌%◌, ◌<◌, Bool, ◌&&◌, ◌||◌, cond, eqb, ltb, leb, min, List, [], ◌∷◌, length, map, get_or, refl, ap, ◌∙◌, arith, filter, position}
 use Rattle.std.specs.Option.{option_map_or}
 use Rattle.std.proofs.lemmas.List.{get_or-map, length-map}
-use Rattle.house_base.specs.Setting.{Setting, size, cluster_at}
-use Rattle.house_model.specs.Counting.{count_below, numbers_below}
-use Rattle.house_model.specs.Split.{cents_at}
-use Rattle.house_model.specs.Profile.{Profile, Pairs, Points, row, row_points, cents, score, quota, cumulative_quota, cluster_size, rank}
-use Rattle.house_model.specs.Report.{place_of_number}
-use Rattle.house_model.proofs.CountingLemmas.{count_below-same, sum_below-same}
-use Rattle.house_model.specs.Report.{applicant_row, cluster_row, cluster_rows_of, applicant_rows_of, outcome_of}
-use Rattle.review_desk.specs.Desk.{profile_on}
+use Rattle.house_base.specs.Setting.{Setting, size, cluster_at, name_at}
 use Rattle.house_base.specs.declared.answer.Asides.{Asides}
-use Rattle.house_model.specs.Profile.{denominator, cluster_cents}
-use Rattle.house_model.specs.Lottery.{seats, filled, empty_seats, selected, chance}
-use Rattle.house_model.specs.Report.{name_at, person_at}
-use Rattle.house_model.proofs.RowLemmas.{row-below}
+use Rattle.peer_selection.specs.Counting.{count_below, numbers_below}
+use Rattle.peer_selection.specs.Split.{cents_at}
+use Rattle.peer_selection.specs.Profile.{Profile, Pairs, Points, row, row_points, cents, score, quota, cumulative_quota, cluster_size, rank, profile_on}
+use Rattle.peer_selection.proofs.CountingLemmas.{count_below-same, sum_below-same}
+use Rattle.peer_selection.specs.Profile.{denominator, cluster_cents}
+use Rattle.peer_selection.specs.Lottery.{seats, filled, empty_seats, selected, chance}
+use Rattle.peer_selection.proofs.RowLemmas.{row-below}
+use Rattle.house_model.specs.Report.{place_of_number}
+use Rattle.house_model.specs.Report.{applicant_row, cluster_row, cluster_rows_of, applicant_rows_of, outcome_of}
+use Rattle.house_model.specs.Report.{person_at}
 use Rattle.call_outcome.proofs.OutcomeLemmas.{parts_with, row_with, applicant_with}
 
 filter-same : (t u : ℕ → Bool) (xs : List ℕ) → ((k : ℕ) → k < length xs → t (get_or xs k 0) ≡ u (get_or xs k 0)) → filter t xs ≡ filter u xs

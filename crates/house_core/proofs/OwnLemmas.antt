@@ -9,6 +9,10 @@ use Rattle.house_base.specs.declared.limits.TheConstants.{MOST_CLUSTERS}
 use Rattle.house_base.specs.Number.{number_up_to, is_canonical}
 use Rattle.house_base.specs.declared.answer.Reason.{Reason}
 use Rattle.house_base.specs.declared.answer.Reason.TheVariants as reason
+use Rattle.house_base.specs.Setting.{Setting}
+use Rattle.house_base.specs.Text.{Text}
+use Rattle.peer_selection.specs.Profile.{Pairs, is_valid}
+use Rattle.peer_selection.specs.FirstAssignment.{first_assignment, has_assignment}
 use Rattle.house_model.specs.declared.command.Command.{Command}
 use Rattle.house_model.specs.declared.command.Command.TheVariants as command
 use Rattle.house_model.specs.declared.goal.Goal.{Goal}
@@ -16,13 +20,10 @@ use Rattle.house_model.specs.Ending.{Halt}
 use Rattle.house_model.specs.declared.verb.Verb.{Verb}
 use Rattle.house_model.specs.declared.verb.Verb.TheVariants as verb
 use Rattle.house_model.specs.Commands.{verb_of_command}
-use Rattle.house_base.specs.Setting.{Setting}
-use Rattle.house_model.specs.Profile.{Pairs, is_valid}
-use Rattle.house_model.specs.Text.{Text, Lines, word}
+use Rattle.house_model.specs.Text.{Lines, word}
 use Rattle.house_model.specs.Verbs.{verb_in}
 use Rattle.house_model.specs.Register.{all_placed, name_pair}
 use Rattle.house_model.specs.Said.{has, number, clusters_of, applicant_in, register, denominator_of, setting, has_pairs, run_pairs}
-use Rattle.house_model.specs.FirstAssignment.{first_assignment, has_assignment}
 use Rattle.house_model.specs.Runs.{falls_short, halt}
 use Rattle.house_model.specs.Seeds.{seed_seal}
 use Rattle.house_model.specs.Faults.{fault, ill_formed, is_within, is_below, names_are_formed, numbers_are_in_range, looks_at_pairs}

@@ -10,9 +10,10 @@ use Rattle.std.proofs.Math.Dec.{eqb-suc-zero}
 use Rattle.std.proofs.lemmas.Bool.{or_parts}
 use Rattle.house_base.specs.declared.phase.Phase.{Phase}
 use Rattle.house_base.specs.declared.phase.Phase.TheVariants as phase
+use Rattle.house_base.specs.Text.{Text}
 use Rattle.house_model.specs.declared.verb.Verb.{Verb}
 use Rattle.house_model.specs.declared.verb.Verb.TheVariants as verb
-use Rattle.house_model.specs.Text.{Text, Lines, word}
+use Rattle.house_model.specs.Text.{Lines, word}
 use Rattle.house_model.specs.Verbs.{verb_in, verb_number, commands}
 use Rattle.house_model.specs.Register.{Register}
 use Rattle.house_model.specs.Said.{has, those, number, phase_after, call_number, applicant_in, place_in, pair_in, register, denominator_of, spelled, seed_of, seal_of, draw_of, setting, has_pairs, run_pairs}

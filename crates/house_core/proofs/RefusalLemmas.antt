@@ -5,11 +5,12 @@ use Rattle.std.specs.Option.{option_map_or}
 use Rattle.std.proofs.lemmas.Bool.{and_right}
 use Rattle.house_base.specs.declared.answer.Reason.{Reason}
 use Rattle.house_base.specs.declared.answer.Reason.TheVariants as reason
+use Rattle.house_base.specs.Text.{Text}
 use Rattle.house_model.specs.declared.goal.Goal.{Goal}
 use Rattle.house_model.specs.declared.verb.Verb.{Verb}
 use Rattle.house_model.specs.declared.verb.Verb.TheVariants as verb
 use Rattle.house_model.specs.Ending.{Halt}
-use Rattle.house_model.specs.Text.{Text, Lines, is_blank}
+use Rattle.house_model.specs.Text.{Lines, is_blank}
 use Rattle.house_model.specs.Verbs.{verb_in, verb_number, allows, is_review, is_house}
 use Rattle.house_model.specs.Said.{has, phase_after, register}
 use Rattle.house_model.specs.Faults.{fault, house_fault, lacks_call, out_of_order, ill_formed, comes_again, names_are_formed, numbers_are_in_range, is_known, is_unknown, is_too_many, breaks_seal, is_few, is_unplaced, is_invalid}

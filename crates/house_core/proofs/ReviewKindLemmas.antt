@@ -10,13 +10,14 @@ use Rattle.house_base.specs.Grid.{Square, cell}
 use Rattle.house_base.specs.Name.{is_name}
 use Rattle.house_base.specs.Number.{is_canonical, number_up_to}
 use Rattle.house_base.specs.Setting.{IsSetting, size, names_of}
+use Rattle.house_base.specs.Text.{Text, among}
 use Rattle.house_model.specs.declared.goal.Goal.{Goal}
 use Rattle.house_model.specs.declared.goal.Goal.TheVariants as goal
 use Rattle.house_model.specs.Faults.{is_within, looks_at_pairs}
-use Rattle.house_model.specs.Register.{names, persons, among}
+use Rattle.house_model.specs.Register.{names, persons}
 use Rattle.house_model.specs.Reviews.{is_before_assignment, is_after_close, is_assigned, kind_of, kind_tests, first_of_kinds, reviewer_place, proposal_place}
 use Rattle.house_model.specs.Said.{register, phase_after, setting, run_pairs, assigned}
-use Rattle.house_model.specs.Text.{Text, Lines, words, word}
+use Rattle.house_model.specs.Text.{Lines, words, word}
 use Rattle.command_text.specs.Reading.{name_in, review_in}
 use Rattle.review_desk.specs.Line.{kind_before, kind_among, is_person, is_applicant, reviewer_of, proposal_of}
 use Rattle.house_core.specs.Standing.{are_known}

@@ -8,12 +8,13 @@ use Rattle.house_base.specs.declared.answer.Kind.{Kind}
 use Rattle.house_base.specs.declared.answer.Kind.TheVariants as kind
 use Rattle.house_base.specs.declared.phase.Phase.TheVariants as phase
 use Rattle.house_base.specs.Answer.{counted}
+use Rattle.house_base.specs.Setting.{name_at}
+use Rattle.house_base.specs.Text.{Text}
 use Rattle.house_model.specs.declared.goal.Goal.{Goal}
 use Rattle.house_model.specs.declared.goal.Goal.TheVariants as goal
 use Rattle.house_model.specs.declared.verb.Verb.{Verb}
 use Rattle.house_model.specs.declared.verb.Verb.TheVariants as verb
-use Rattle.house_model.specs.Report.{name_at}
-use Rattle.house_model.specs.Text.{Text, Lines, words, word}
+use Rattle.house_model.specs.Text.{Lines, words, word}
 use Rattle.house_model.specs.Verbs.{verb_number, commands, is_review}
 use Rattle.house_model.specs.Register.{reviewer_at}
 use Rattle.house_model.specs.Said.{has, register, phase_after, number, setting, run_pairs, draw_of}

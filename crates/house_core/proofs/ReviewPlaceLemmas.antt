@@ -8,16 +8,17 @@ use Rattle.std.proofs.lemmas.Option.{slice_get_within}
 use Rattle.house_base.specs.declared.plan.Owner.{Owner}
 use Rattle.house_base.specs.declared.plan.Person.{Person}
 use Rattle.house_base.specs.Name.{is_name}
-use Rattle.house_base.specs.Setting.{Setting, IsSetting, size, names_of, owner_from}
+use Rattle.house_base.specs.Setting.{Setting, IsSetting, size, names_of, owner_from, name_at}
 use Rattle.house_base.proofs.Settings.{Contains-find, find-from_Contains, find_cases, owner_from-first}
-use Rattle.house_model.specs.Report.{name_at}
-use Rattle.house_model.specs.Text.{Text, Lines}
-use Rattle.house_model.specs.Register.{Register, names, persons, own_people, entry, among, reviewer_at}
+use Rattle.house_base.specs.Text.{Text, among}
+use Rattle.house_base.proofs.InOrderLemmas.{In, In-map, map-In, In-filter, In-flat_map, flat_map-In, In-Contains, In-from_Contains, All-In, InOrder-from_AllPairs, same_element}
+use Rattle.house_base.proofs.AmongLemmas.{same_text, bytes_eq-same, among-In, among-same}
+use Rattle.house_model.specs.Text.{Lines}
+use Rattle.house_model.specs.Register.{Register, names, persons, own_people, entry, reviewer_at}
 use Rattle.house_model.specs.Reviews.{reviewer_place, proposal_place}
 use Rattle.house_model.specs.Said.{register, seats_of, clusters_of, reviews_of, seed_of, setting}
 use Rattle.house_model.specs.Seeds.{drawn_persons, drawn_register, open_setting_in, setting_in, seeded_persons, seeded_register}
-use Rattle.house_model.proofs.InOrderLemmas.{In, In-map, map-In, In-filter, In-flat_map, flat_map-In, In-Contains, In-from_Contains, All-In, InOrder-from_AllPairs, same_element}
-use Rattle.house_model.proofs.GroupLemmas.{same_text, bytes_eq-same, among-In, among-same, firsts-In, In-group}
+use Rattle.house_model.proofs.GroupLemmas.{firsts-In, In-group}
 use Rattle.house_model.proofs.RegisterLemmas.{their_persons}
 use Rattle.house_model.proofs.RegisterPeopleLemmas.{Numbered, person_in, numbered, own_entries, map-enumerate_from, person_among}
 use Rattle.house_model.proofs.RegisterSettingLemmas.{names-owners_from}

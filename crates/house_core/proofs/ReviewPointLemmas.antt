@@ -11,13 +11,13 @@ use Rattle.house_base.specs.declared.answer.Kind.{Kind}
 use Rattle.house_base.specs.declared.limits.TheConstants.{MOST_POINTS}
 use Rattle.house_base.specs.Grid.{Square, cell}
 use Rattle.house_base.specs.Number.{is_canonical, number_up_to}
-use Rattle.house_base.specs.Setting.{size}
+use Rattle.house_base.specs.Setting.{size, name_at}
+use Rattle.house_base.specs.Text.{Text}
 use Rattle.house_model.specs.declared.goal.Goal.TheVariants as goal
 use Rattle.house_model.specs.Faults.{is_within}
-use Rattle.house_model.specs.Report.{name_at}
 use Rattle.house_model.specs.Reviews.{kind_of, kept_after, points_of, reviewer_place, proposal_place}
 use Rattle.house_model.specs.Said.{number, phase_after, setting}
-use Rattle.house_model.specs.Text.{Text, Lines, word}
+use Rattle.house_model.specs.Text.{Lines, word}
 use Rattle.house_model.specs.Verbs.{is_review}
 use Rattle.command_text.specs.Reading.{review_in}
 use Rattle.review_desk.specs.Line.{kind_before, kind_among, points_in, points_after}

@@ -2,10 +2,9 @@
 use Rattle.std.proofs.Common.{◌≡◌, ℕ, ◌+◌, ◌/◌, ◌%◌, ◌*◌, Bool, Option, Some, None, List, [], ◌∷◌, flat_map, length, map, refl, sym, ap, ◌∙◌, subst, All}
 use Rattle.std.specs.Prelude.{IsTrue}
 use Rattle.house_base.specs.Name.{is_name}
-use Rattle.house_base.specs.Setting.{Setting}
-use Rattle.house_model.specs.Counting.{numbers_below}
-use Rattle.house_model.specs.Report.{name_at}
-use Rattle.house_model.specs.Text.{Text}
+use Rattle.house_base.specs.Setting.{Setting, name_at}
+use Rattle.house_base.specs.Text.{Text}
+use Rattle.peer_selection.specs.Counting.{numbers_below}
 use Rattle.house_model.specs.Register.{Register, names, persons, own_count, placed_names, cluster_of, all_placed, pair_among, own_people, owners_from, name_pair, reviewer_at, square_of}
 use Rattle.house_model.specs.Said.{denominator_of}
 use Rattle.house_model.specs.Seeds.{key_rank, drawn_cluster, drawn_persons, drawn_register, open_setting_in, setting_in, seeded_persons, seeded_register, seeded_setting}

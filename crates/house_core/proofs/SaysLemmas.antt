@@ -18,6 +18,8 @@ use Rattle.house_base.specs.declared.review.ReviewLine.{ReviewLine}
 use Rattle.house_base.specs.declared.call.Call.{Call}
 use Rattle.house_base.specs.declared.phase.Phase.{Phase}
 use Rattle.house_base.specs.declared.phase.Phase.TheVariants as phase
+use Rattle.house_base.specs.Text.{Text}
+use Rattle.peer_selection.specs.Profile.{Pairs, Points}
 use Rattle.house_model.specs.declared.command.Command.{Command}
 use Rattle.house_model.specs.declared.command.Command.TheVariants as command
 use Rattle.house_model.specs.declared.goal.Goal.{Goal}
@@ -25,8 +27,7 @@ use Rattle.house_model.specs.declared.goal.Goal.TheVariants as goal
 use Rattle.house_model.specs.declared.verb.Verb.{Verb}
 use Rattle.house_model.specs.declared.verb.Verb.TheVariants as verb
 use Rattle.house_model.specs.Commands.{verb_of_command}
-use Rattle.house_model.specs.Profile.{Pairs, Points}
-use Rattle.house_model.specs.Text.{Text, Lines, word, is_blank}
+use Rattle.house_model.specs.Text.{Lines, word, is_blank}
 use Rattle.house_model.specs.Verbs.{verb_in, verb_number, allows, is_review}
 use Rattle.house_model.specs.Register.{Register, IsRegister, pair_among}
 use Rattle.house_model.specs.Said.{has, those, register, denominator_of, bytes_or_none, spelled, seed_of, seal_of, draw_of, phase_after, number, setting, run_pairs, applicant_in, place_in, pair_in}

@@ -6,12 +6,12 @@ use Rattle.house_base.specs.declared.limits.TheConstants.{MOST_APPLICANTS, MOST_
 use Rattle.house_base.specs.declared.answer.Reason.{Reason}
 use Rattle.house_base.specs.declared.answer.Reason.TheVariants as reason
 use Rattle.house_base.specs.Setting.{Setting, size}
+use Rattle.house_base.specs.Text.{Text, among}
+use Rattle.peer_selection.specs.Profile.{Pairs}
+use Rattle.peer_selection.proofs.SameLemmas.{is_valid-same}
 use Rattle.house_model.specs.declared.command.Command.TheVariants as command
-use Rattle.house_model.specs.Text.{Text}
-use Rattle.house_model.specs.Profile.{Pairs}
-use Rattle.house_model.specs.Register.{Register, names, persons, firsts, own_count, among, pair_among}
+use Rattle.house_model.specs.Register.{Register, names, persons, firsts, own_count, pair_among}
 use Rattle.house_model.specs.Said.{denominator_of}
-use Rattle.house_model.proofs.SameLemmas.{is_valid-same}
 use Rattle.register_book.specs.declared.fault.BookFault.{BookFault}
 use Rattle.register_book.specs.declared.fault.BookFault.TheVariants as book
 use Rattle.seat_quota.specs.Tally.{DeskTotals, IsTally}

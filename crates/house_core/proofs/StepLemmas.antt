@@ -5,11 +5,12 @@ use Rattle.std.proofs.lemmas.Bool.{true≢false, or_parts, not-false}
 use Rattle.house_base.specs.declared.call.Call.{Call}
 use Rattle.house_base.specs.declared.phase.Phase.{Phase}
 use Rattle.house_base.specs.declared.phase.Phase.TheVariants as phase
+use Rattle.house_base.specs.Text.{Text}
 use Rattle.house_model.specs.declared.verb.Verb.{Verb}
 use Rattle.house_model.specs.declared.verb.Verb.TheVariants as verb
 use Rattle.house_model.specs.declared.goal.Goal.{Goal}
 use Rattle.house_model.specs.declared.goal.Goal.TheVariants as goal
-use Rattle.house_model.specs.Text.{Text, Lines}
+use Rattle.house_model.specs.Text.{Lines}
 use Rattle.house_model.specs.Verbs.{allows, verb_in, verb_number, is_review}
 use Rattle.house_model.specs.Said.{has, phase_after, call_number, seats_of, clusters_of, reviews_of, register, setting, run_pairs}
 use Rattle.house_model.specs.Faults.{comes_again, looks_at_pairs}

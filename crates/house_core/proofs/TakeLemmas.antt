@@ -7,6 +7,7 @@ use Rattle.house_base.specs.declared.answer.Reason.TheVariants as reason
 use Rattle.house_base.specs.declared.limits.TheConstants.{MOST_CLUSTERS}
 use Rattle.house_base.specs.declared.phase.Phase.{Phase}
 use Rattle.house_base.specs.declared.phase.Phase.TheVariants as phase
+use Rattle.house_base.specs.Text.{Text}
 use Rattle.house_model.specs.declared.command.Command.{Command}
 use Rattle.house_model.specs.declared.command.Command.TheVariants as command
 use Rattle.house_model.specs.Ending.{Halt}
@@ -15,7 +16,7 @@ use Rattle.house_model.specs.declared.verb.Verb.{Verb}
 use Rattle.house_model.specs.declared.verb.Verb.TheVariants as verb
 use Rattle.house_model.specs.Commands.{verb_of_command}
 use Rattle.house_model.specs.Faults.{is_within}
-use Rattle.house_model.specs.Text.{Text, Lines, word, is_blank}
+use Rattle.house_model.specs.Text.{Lines, word, is_blank}
 use Rattle.house_model.specs.Verbs.{verb_in, allows, is_house, is_review}
 use Rattle.command_text.specs.Reading.{IsCommandLine, IsBadLine, numbers_are_within}
 use Rattle.house_core.specs.declared.state.State.{State}

@@ -5,9 +5,10 @@ use Rattle.std.specs.Option.{option_map_or}
 use Rattle.std.specs.Str.{bytes_eq}
 use Rattle.std.proofs.lemmas.Slice.Eq.{bytes_eq-Decides}
 use Rattle.std.proofs.lemmas.Bool.{eqb-true, or_cases}
+use Rattle.house_base.specs.Text.{Text}
 use Rattle.house_model.specs.declared.verb.Verb.{Verb}
 use Rattle.house_model.specs.declared.verb.Verb.TheVariants as verb
-use Rattle.house_model.specs.Text.{Text, words, word, is_blank, is_empty}
+use Rattle.house_model.specs.Text.{words, word, is_blank, is_empty}
 use Rattle.house_model.specs.Verbs.{verb_of, verb_in, verb_number, commands, is_review}
 
 -- a comment's first word commands nothing

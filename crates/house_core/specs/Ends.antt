@@ -1,10 +1,10 @@
 use Rattle.std.specs.Prelude.{◌≡◌, ◌<◌, ℕ, Result, Ok, Err}
 use Rattle.house_base.specs.Answer.{raised}
+use Rattle.peer_selection.specs.Laws.{IsAssigned}
+use Rattle.peer_selection.specs.Profile.{denominator}
 use Rattle.house_model.specs.declared.goal.Goal.TheVariants as goal
 use Rattle.house_model.specs.Text.{Lines}
 use Rattle.house_model.specs.Ending.{Ended}
-use Rattle.house_model.specs.Laws.{IsAssigned}
-use Rattle.house_model.specs.Profile.{denominator}
 use Rattle.house_model.specs.Report.{OutcomeParts, outcome_of}
 use Rattle.house_model.specs.Reviews.{asides_of, profile}
 use Rattle.house_model.specs.Said.{draw_of}

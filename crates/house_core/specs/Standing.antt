@@ -14,24 +14,25 @@ use Rattle.house_base.specs.declared.answer.Reason.{Reason}
 use Rattle.house_base.specs.declared.answer.Reason.TheVariants as reason
 use Rattle.house_base.specs.Grid.{Square, cell}
 use Rattle.house_base.specs.Setting.{Setting, size}
+use Rattle.house_base.specs.Text.{Text, among}
+use Rattle.peer_selection.specs.Profile.{Pairs, denominator, is_valid}
+use Rattle.peer_selection.specs.FirstAssignment.{first_assignment, has_assignment}
+use Rattle.peer_selection.specs.Shortage.{IsShortage, assignment_demand}
 use Rattle.house_model.specs.declared.command.Command.{Command}
 use Rattle.house_model.specs.declared.command.Command.TheVariants as command
 use Rattle.house_model.specs.declared.goal.Goal.{Goal}
 use Rattle.house_model.specs.declared.verb.Verb.{Verb}
 use Rattle.house_model.specs.declared.verb.Verb.TheVariants as verb
 use Rattle.house_model.specs.Commands.{verb_of_command}
-use Rattle.house_model.specs.Profile.{Pairs, denominator, is_valid}
-use Rattle.house_model.specs.Text.{Text, Lines}
+use Rattle.house_model.specs.Text.{Lines}
 use Rattle.house_model.specs.Verbs.{allows, is_review, verb_in}
-use Rattle.house_model.specs.Register.{Register, IsRegister, names, persons, placed_names, own_count, among, pair_among, all_placed, name_pair}
+use Rattle.house_model.specs.Register.{Register, IsRegister, names, persons, placed_names, own_count, pair_among, all_placed, name_pair}
 use Rattle.house_model.specs.Said.{has, phase_after, seats_of, clusters_of, reviews_of, register, denominator_of, draw_of, seed_of, seal_of, setting, run_pairs}
 use Rattle.house_model.specs.Seeds.{seed_draw, seed_seal, seeded_setting}
 use Rattle.house_model.specs.Reviews.{kind_of, asides_of, points_of}
 use Rattle.house_model.specs.Runs.{halt}
 use Rattle.house_model.specs.Ending.{Halt}
 use Rattle.house_model.specs.Faults.{looks_at_pairs}
-use Rattle.house_model.specs.FirstAssignment.{first_assignment, has_assignment}
-use Rattle.house_model.specs.Shortage.{IsShortage, assignment_demand}
 use Rattle.cut_gap.specs.Cut.{marked}
 use Rattle.review_desk.specs.Desk.{points_at}
 use Rattle.review_desk.specs.Line.{kind_before, kind_among, points_after, took_as}

@@ -3,11 +3,11 @@
 ghost use Rattle.std.specs.Prelude.{◌≡◌, ◌≢◌, ◌≤◌, None, OnOk, OnErr, IfOk, IfErr, IfSome, IsTrue, true};
 ghost use Rattle.house_base.specs.Grid.{cell};
 ghost use Rattle.house_base.specs.Setting.{size};
+ghost use Rattle.peer_selection.specs.FirstAssignment.{first_assignment, has_assignment};
+ghost use Rattle.peer_selection.specs.Profile.{denominator, is_valid};
 ghost use Rattle.house_model.specs.declared.command.Command.TheVariants as command;
 ghost use Rattle.house_model.specs.Faults.{looks_at_pairs};
-ghost use Rattle.house_model.specs.FirstAssignment.{first_assignment, has_assignment};
 ghost use Rattle.house_model.specs.Naming.{HasNamesOf};
-ghost use Rattle.house_model.specs.Profile.{denominator, is_valid};
 ghost use Rattle.house_model.specs.Register.{IsRegister, name_pair};
 ghost use Rattle.house_model.specs.Said.{denominator_of};
 ghost use Rattle.seat_quota.specs.Tally.{IsTally};

@@ -4,13 +4,13 @@ ghost use Rattle.std.specs.Prelude.{◌≡◌, ◌≢◌, ◌-◌, ◌^◌, ◌<
 ghost use Rattle.std.specs.Option.{option_map_or};
 ghost use Rattle.cut_gap.specs.Cut.{marked};
 ghost use Rattle.house_base.specs.Setting.{size};
+ghost use Rattle.peer_selection.specs.Shortage.{IsShortage, assignment_demand};
 ghost use Rattle.house_model.specs.declared.verb.Verb.TheVariants as verb;
 ghost use Rattle.house_model.specs.Ending.{ended, in_force, is_drawn, stop_of};
 ghost use Rattle.house_model.specs.Faults.{looks_at_pairs};
 ghost use Rattle.house_model.specs.Reviews.{asides_of};
 ghost use Rattle.house_model.specs.Runs.{halt};
 ghost use Rattle.house_model.specs.Said.{has, phase_after, setting};
-ghost use Rattle.house_model.specs.Shortage.{IsShortage, assignment_demand};
 ghost use Rattle.house_model.specs.Text.{Lines, is_blank};
 ghost use Rattle.house_model.specs.Verbs.{is_review};
 ghost use Rattle.house_core.specs.Ends.{EndsAs, stopped_fault};

@@ -10,16 +10,17 @@ use Rattle.house_base.specs.declared.answer.Kind.{Kind}
 use Rattle.house_base.specs.declared.answer.Kind.TheVariants as kind
 use Rattle.house_base.specs.declared.phase.Phase.{Phase}
 use Rattle.house_base.specs.declared.phase.Phase.TheVariants as phase
+use Rattle.house_base.specs.Text.{Text}
+use Rattle.house_base.proofs.InOrderLemmas.{In-map, In-append_left, In-append_right, filter-In}
 use Rattle.house_model.specs.declared.goal.Goal.{Goal}
 use Rattle.house_model.specs.Interleaving.{AreInterleaved, phase_number, standing_after, standing_in, names_reviewer, names_nobody}
 use Rattle.house_model.specs.Isolation.{HaveSameHouse}
 use Rattle.house_model.specs.Register.{firsts}
 use Rattle.house_model.specs.Reviews.{kind_of, asides_after, asides_of, no_asides}
 use Rattle.house_model.specs.Said.{phase_after}
-use Rattle.house_model.specs.Text.{Text, Lines, words, word}
+use Rattle.house_model.specs.Text.{Lines, words, word}
 use Rattle.house_model.specs.Verbs.{is_review}
 use Rattle.house_model.proofs.GroupLemmas.{group, sum_by-groups, In-firsts, Apart-firsts}
-use Rattle.house_model.proofs.InOrderLemmas.{In-map, In-append_left, In-append_right, filter-In}
 use Rattle.house_model.proofs.KindLemmas.{IsReadAt, read_on, kind_at, kind_at-same, kind_at-unformed, kind_of-read, filter-both}
 
 -- Counts of kinds.

@@ -1,6 +1,6 @@
 use Rattle.std.proofs.Common.{◌≡◌, ℕ, zero, suc, List, [], ◌∷◌, Some, slice_get, refl, ap, subst, arith}
 use Rattle.std.proofs.lemmas.Option.{slice_get_within, get_or_from_slice_get, same_Some}
-use Rattle.house_model.proofs.InOrderLemmas.{In, Apart, In-get_or}
+use Rattle.house_base.proofs.InOrderLemmas.{In, Apart, In-get_or}
 
 -- What stands at an index of a list.
 

@@ -4,11 +4,12 @@ use Rattle.std.specs.Option.{option_map_or, is_none}
 use Rattle.std.proofs.lemmas.Bool.{cond_both, cond-true, cond-false, not-false, both_ways, false_from_ne_true}
 use Rattle.std.proofs.lemmas.List.Elements.{filter-append}
 use Rattle.house_base.specs.declared.answer.Reason.TheVariants as reason
+use Rattle.house_base.specs.Text.{Text}
 use Rattle.house_model.specs.declared.goal.Goal.{Goal}
 use Rattle.house_model.specs.declared.goal.Goal.TheVariants as goal
 use Rattle.house_model.specs.declared.verb.Verb.{Verb}
 use Rattle.house_model.specs.declared.verb.Verb.TheVariants as verb
-use Rattle.house_model.specs.Text.{Text, Lines}
+use Rattle.house_model.specs.Text.{Lines}
 use Rattle.house_model.specs.Verbs.{verb_in, commands, is_house}
 use Rattle.house_model.specs.Said.{has, phase_after}
 use Rattle.house_model.specs.Faults.{fault, house_fault, lacks_call, out_of_order, comes_again, numbers_are_in_range, breaks_seal, is_unplaced, is_invalid}

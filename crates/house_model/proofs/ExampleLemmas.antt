@@ -5,9 +5,10 @@ use Rattle.std.proofs.lemmas.Bool.{and_parts, eqb-true, leb-true}
 use Rattle.house_base.specs.declared.limits.TheConstants.{MOST_APPLICANTS, MOST_SEATS, FEWEST_CLUSTERS, MOST_CLUSTERS, MOST_REVIEWS, MOST_OWN}
 use Rattle.house_base.specs.declared.plan.Owner.{Owner}
 use Rattle.house_base.specs.Setting.{Setting, StandInTurn, size, names_of, numbers_of}
-use Rattle.house_model.specs.Counting.{all_below}
-use Rattle.house_model.specs.Laws.{IsAssigned}
-use Rattle.house_model.specs.Profile.{Profile, is_valid}
+use Rattle.peer_selection.specs.Counting.{all_below}
+use Rattle.peer_selection.specs.Laws.{IsAssigned}
+use Rattle.peer_selection.specs.Profile.{Profile, is_valid}
+use Rattle.peer_selection.proofs.WorkedLemmas.{pairs_pass, in_one_cluster, in_rising_number, IsSetting-by_tests}
 use Rattle.house_model.specs.Report.{outcome_text}
 use Rattle.house_model.specs.Text.{Lines}
 use Rattle.house_model.specs.Said.{setting, assigned, draw_of}
@@ -15,7 +16,6 @@ use Rattle.house_model.specs.Reviews.{asides_of, profile}
 use Rattle.house_model.specs.Runs.{report_of}
 use Rattle.house_model.specs.declared.goal.Goal.TheVariants as goal
 use Rattle.house_model.proofs.ReportLemmas.{outcome_by_quota, report-by_quota}
-use Rattle.house_model.proofs.WorkedLemmas.{pairs_pass, in_one_cluster, in_rising_number, IsSetting-by_tests}
 
 -- One test of a profile that computes: its setting is one, and its assignment is valid.
 

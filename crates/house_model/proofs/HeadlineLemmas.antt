@@ -1,15 +1,15 @@
 -- What is promised of the lines of a call.
 use Rattle.std.proofs.Common.{refl, sym, suc, arith}
+use Rattle.peer_selection.specs.Lottery.{chance}
+use Rattle.peer_selection.proofs.ClusterLemmas.{cumulative_quota-all}
+use Rattle.peer_selection.proofs.SeatLemmas.{seats-all, seats-rounded, cumulative_quota-mono}
+use Rattle.peer_selection.proofs.ChanceLemmas.{seats-all_draws}
 use Rattle.house_model.specs.declared.goal.Goal.TheVariants as goal
 use Rattle.house_model.specs.Headline.{AreOfCall, ChancesAreCounted, OwnReviewsChangeNoChance, SeatsAreQuotasRounded, QuotasAreMeans, OrderOfArrivalChangesNothing}
 use Rattle.house_model.specs.Isolation.{GiveAssignment}
-use Rattle.house_model.specs.Lottery.{chance}
 use Rattle.house_model.specs.Reviews.{profile}
 use Rattle.house_model.specs.Said.{draw_of}
 use Rattle.house_model.specs.Text.{Lines}
-use Rattle.house_model.proofs.ClusterLemmas.{cumulative_quota-all}
-use Rattle.house_model.proofs.SeatLemmas.{seats-all, seats-rounded, cumulative_quota-mono}
-use Rattle.house_model.proofs.ChanceLemmas.{seats-all_draws}
 use Rattle.house_model.proofs.OwnReviewLemmas.{chance-without, chance-one}
 use Rattle.house_model.proofs.DoneLemmas.{done-without}
 use Rattle.house_model.proofs.InterleavingLemmas.{done-arrival, report-arrival}

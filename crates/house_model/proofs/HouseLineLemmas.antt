@@ -5,16 +5,17 @@ use Rattle.std.specs.List.{list_any}
 use Rattle.std.specs.Option.{option_map, option_map_or}
 use Rattle.std.proofs.lemmas.Bool.{both_ways, or_cases, and_right, cond-false, cond_both, eqb-true, false_from_ne_true, not_from_true, and_cases, not-false, not_from_false, cases_Bool}
 use Rattle.std.proofs.lemmas.List.Elements.{filter-append}
+use Rattle.house_base.specs.Text.{Text}
+use Rattle.house_base.proofs.AmongLemmas.{same_text}
 use Rattle.house_model.specs.declared.goal.Goal.{Goal}
 use Rattle.house_model.specs.declared.goal.Goal.TheVariants as goal
 use Rattle.house_model.specs.declared.verb.Verb.{Verb}
 use Rattle.house_model.specs.declared.verb.Verb.TheVariants as verb
-use Rattle.house_model.specs.Text.{Text, Lines, words, word, is_blank, is_empty}
+use Rattle.house_model.specs.Text.{Lines, words, word, is_blank, is_empty}
 use Rattle.house_model.specs.Verbs.{verb_of, verb_in, verb_number, commands, is_review, is_house}
 use Rattle.house_model.specs.Said.{has, those, phase_after, call_number, number, register, seed_of, seal_of, spelled, draw_of, setting, has_pairs, run_pairs, assigned}
 use Rattle.house_model.specs.Reviews.{kind_of, kind_tests}
 use Rattle.house_model.specs.Isolation.{HaveSameHouse}
-use Rattle.house_model.proofs.GroupLemmas.{same_text}
 
 -- What passes one test where it passes another is looked for among what passes the other.
 

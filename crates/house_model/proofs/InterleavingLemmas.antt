@@ -2,10 +2,10 @@
 use Rattle.std.proofs.Common.{◌≡◌, refl, sym, ap, ◌∙◌}
 use Rattle.std.proofs.Math.Path.{fun_ext}
 use Rattle.house_base.specs.Setting.{Setting}
+use Rattle.peer_selection.specs.Profile.{Pairs, Points, Profile}
 use Rattle.house_model.specs.declared.goal.Goal.TheVariants as goal
 use Rattle.house_model.specs.Ending.{Ended}
 use Rattle.house_model.specs.Interleaving.{AreInterleaved}
-use Rattle.house_model.specs.Profile.{Pairs, Points, Profile}
 use Rattle.house_model.specs.Reviews.{asides_of, points_of, profile}
 use Rattle.house_model.specs.Said.{setting, assigned, draw_of}
 use Rattle.house_model.specs.Text.{Lines}

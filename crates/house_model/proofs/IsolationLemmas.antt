@@ -3,17 +3,17 @@ use Rattle.std.proofs.Common.{◌≡◌, ◌≢◌, ℕ, Bool, true, false, not,
 use Rattle.std.specs.Option.{is_none}
 use Rattle.std.proofs.lemmas.Bool.{and_left, and_parts, cond_both, cond-false, not_from_false, not-false, and_from, both_ways, false_from_ne_true, not-true}
 use Rattle.std.proofs.lemmas.List.Elements.{filter-append}
-use Rattle.house_base.specs.Setting.{Setting}
+use Rattle.house_base.specs.Setting.{Setting, name_at}
+use Rattle.house_base.specs.Text.{Text}
+use Rattle.house_base.proofs.AmongLemmas.{same_text, bytes_eq-other, bytes_eq-same}
 use Rattle.house_model.specs.declared.goal.Goal.{Goal}
 use Rattle.house_model.specs.declared.goal.Goal.TheVariants as goal
-use Rattle.house_model.specs.Report.{name_at}
-use Rattle.house_model.specs.Text.{Text, Lines, word}
+use Rattle.house_model.specs.Text.{Lines, word}
 use Rattle.house_model.specs.Verbs.{is_review, is_house}
 use Rattle.house_model.specs.Register.{reviewer_at}
 use Rattle.house_model.specs.Said.{register, seed_of, seal_of, phase_after, draw_of, setting, assigned}
 use Rattle.house_model.specs.Reviews.{kind_of, kept_after, points_of}
 use Rattle.house_model.specs.Isolation.{HaveSameHouse, is_by, without}
-use Rattle.house_model.proofs.GroupLemmas.{same_text, bytes_eq-other, bytes_eq-same}
 use Rattle.house_model.proofs.HouseLineLemmas.{filter-within, review_no_house, house_no_review, phase_after-same, register-same, seed_of-same, seal_of-same, setting-same, assigned-same, draw_of-same, kind_of-same, same-push, same-left}
 
 pub house_not_by : (name line : Text) → is_house line ≡ true → not (is_by name line) ≡ true

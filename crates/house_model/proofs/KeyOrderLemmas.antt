@@ -6,9 +6,9 @@ use Rattle.std.specs.declared.cmp.Ordering.{Ordering}
 use Rattle.std.specs.declared.cmp.Ordering.TheVariants.{Less, Equal, Greater}
 use Rattle.std.proofs.lemmas.Bool.{false≢true, cond_both}
 use Rattle.std.proofs.lemmas.List.Sorted.{IsPermutation-refl, IsPermutation-cons, IsPermutation-trans, IsPermutation-middle, IsPermutation-sym}
+use Rattle.house_base.specs.Text.{Text}
 use Rattle.house_model.specs.Register.{Register, persons}
 use Rattle.house_model.specs.Seeds.{person_key, key_cmp, is_smaller_key, drawn_persons}
-use Rattle.house_model.specs.Text.{Text}
 use Rattle.house_model.proofs.SeedLemmas.{Key, key_cmp_total, moved_names, drawn_persons-sorted}
 
 -- a key is put before the first one that is greater

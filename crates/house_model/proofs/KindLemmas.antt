@@ -9,18 +9,18 @@ use Rattle.house_base.specs.declared.answer.Kind.TheVariants as kind
 use Rattle.house_base.specs.declared.limits.TheConstants.{MOST_POINTS}
 use Rattle.house_base.specs.declared.phase.Phase.{Phase}
 use Rattle.house_base.specs.declared.phase.Phase.TheVariants as phase
-use Rattle.house_base.specs.Setting.{Setting}
+use Rattle.house_base.specs.Setting.{Setting, name_at}
+use Rattle.house_base.specs.Text.{Text, among}
 use Rattle.house_model.specs.declared.goal.Goal.{Goal}
 use Rattle.house_model.specs.declared.goal.Goal.TheVariants as goal
 use Rattle.house_model.specs.Ending.{stop_after}
 use Rattle.house_model.specs.Faults.{is_within}
 use Rattle.house_model.specs.Interleaving.{AreInterleaved, phase_number, standing_after, standing_in, names_reviewer, reviews_naming}
 use Rattle.house_model.specs.Isolation.{HaveSameHouse}
-use Rattle.house_model.specs.Register.{names, persons, reviewer_at, among}
-use Rattle.house_model.specs.Report.{name_at}
+use Rattle.house_model.specs.Register.{names, persons, reviewer_at}
 use Rattle.house_model.specs.Reviews.{is_before_assignment, is_after_close, is_assigned, kind_of, kind_tests, first_of_kinds, kept_after, points_of}
 use Rattle.house_model.specs.Said.{register, phase_after, call_number, seed_of, seal_of, setting, assigned}
-use Rattle.house_model.specs.Text.{Text, Lines, words, word}
+use Rattle.house_model.specs.Text.{Lines, words, word}
 use Rattle.house_model.specs.Runs.{halt}
 use Rattle.house_model.specs.Verbs.{is_review}
 use Rattle.house_model.proofs.HouseLineLemmas.{filter-within, register-same, setting-same, assigned-same}

@@ -9,6 +9,7 @@ use Rattle.house_base.specs.declared.answer.Reason.{Reason}
 use Rattle.house_base.specs.declared.answer.Reason.TheVariants as reason
 use Rattle.house_base.specs.declared.phase.Phase.{Phase}
 use Rattle.house_base.specs.declared.phase.Phase.TheVariants as phase
+use Rattle.house_base.specs.Text.{Text}
 use Rattle.house_model.specs.declared.goal.Goal.{Goal}
 use Rattle.house_model.specs.declared.goal.Goal.TheVariants as goal
 use Rattle.house_model.specs.declared.verb.Verb.{Verb}
@@ -17,7 +18,7 @@ use Rattle.house_model.specs.Ending.{Halt, stop_after}
 use Rattle.house_model.specs.Faults.{fault, house_fault, first_of_reasons, out_of_order, ill_formed, comes_again, digest_is_formed, lacks_call, names_are_formed, numbers_are_in_range, is_known, is_unknown, is_too_many, breaks_seal, is_few, is_unplaced, is_invalid}
 use Rattle.house_model.specs.Reviews.{is_before_assignment}
 use Rattle.house_model.specs.Said.{has, those, phase_after, call_number, number, register, seed_of, seal_of, spelled, setting, has_pairs, run_pairs, assigned}
-use Rattle.house_model.specs.Text.{Text, Lines, words, word}
+use Rattle.house_model.specs.Text.{Lines, words, word}
 use Rattle.house_model.specs.Runs.{halt, falls_short}
 use Rattle.house_model.specs.Verbs.{verb_in, verb_number, commands, is_house, has_count, allows}
 use Rattle.house_model.proofs.HouseLineLemmas.{no_command, no_house_other}

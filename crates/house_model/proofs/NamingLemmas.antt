@@ -4,13 +4,12 @@ use Rattle.std.proofs.lemmas.List.{length-map}
 use Rattle.std.proofs.lemmas.Option.{slice_get-map, slice_get-get_or}
 use Rattle.house_base.specs.declared.plan.Person.{Person}
 use Rattle.house_base.specs.declared.plan.Owner.{Owner}
-use Rattle.house_base.specs.Setting.{IsOwned, number_at}
+use Rattle.house_base.specs.Setting.{IsOwned, number_at, name_at}
+use Rattle.house_base.specs.Text.{Text}
+use Rattle.house_base.proofs.InOrderLemmas.{In, In-get_or, In-from_Contains, map-In}
 use Rattle.house_model.specs.Naming.{HasNamesOf}
 use Rattle.house_model.specs.Register.{Register, persons, own_people, people, owners, entry, open_setting, registered_setting}
-use Rattle.house_model.specs.Report.{name_at}
-use Rattle.house_model.specs.Text.{Text}
 use Rattle.house_model.proofs.GroupLemmas.{In-group}
-use Rattle.house_model.proofs.InOrderLemmas.{In, In-get_or, In-from_Contains, map-In}
 use Rattle.house_model.proofs.RegisterPeopleLemmas.{person_in, numbered, own_entries, entries, entries-In, length-people, map-map, people-entries}
 use Rattle.house_model.proofs.RegisterPlaceLemmas.{applicant_at}
 use Rattle.house_model.proofs.RegisterSettingLemmas.{own_place, number_at-get_or}

@@ -6,14 +6,14 @@ use Rattle.std.proofs.lemmas.Option.{slice_get-map, slice_get-get_or}
 use Rattle.house_base.specs.declared.limits.TheConstants.{MOST_OWN}
 use Rattle.house_base.specs.declared.plan.Person.{Person}
 use Rattle.house_base.specs.declared.plan.Owner.{Owner}
-use Rattle.house_base.specs.Setting.{IsSetting, IsOwned, StandInTurn, cluster_at, number_at}
+use Rattle.house_base.specs.Setting.{IsSetting, IsOwned, StandInTurn, cluster_at, number_at, name_at}
+use Rattle.house_base.specs.Text.{Text}
+use Rattle.house_base.proofs.InOrderLemmas.{In, Apart, In-map, map-In, In-filter, In-flat_map, flat_map-In, In-get_or, In-Contains, In-from_Contains, All-In, All-from_In, AllPairs-from_InOrder, InOrder-from_AllPairs, InOrder-filter, InOrder-map, map-InOrder, InOrder-weaker, InOrder-flat_map, same_element}
+use Rattle.house_base.proofs.AmongLemmas.{bytes_eq-same}
 use Rattle.house_model.specs.Naming.{HasNamesOf}
-use Rattle.house_model.specs.Report.{name_at}
-use Rattle.house_model.specs.Text.{Text}
 use Rattle.house_model.specs.Register.{Register, IsRegister, names, persons, own_people, owners_from, entry, cluster_of, square_of}
 use Rattle.house_model.specs.Seeds.{open_setting_in, setting_in}
-use Rattle.house_model.proofs.InOrderLemmas.{In, Apart, In-map, map-In, In-filter, In-flat_map, flat_map-In, In-get_or, In-Contains, In-from_Contains, All-In, All-from_In, AllPairs-from_InOrder, InOrder-from_AllPairs, InOrder-filter, InOrder-map, map-InOrder, InOrder-weaker, InOrder-flat_map, same_element}
-use Rattle.house_model.proofs.GroupLemmas.{bytes_eq-same, In-group, sum_by-groups}
+use Rattle.house_model.proofs.GroupLemmas.{In-group, sum_by-groups}
 use Rattle.house_model.proofs.NamingLemmas.{person_of_own}
 use Rattle.house_model.proofs.RegisterPeopleLemmas.{Numbered, person_in, numbered, own_entries, map-map, map-flat_map, length-sum_by, In-enumerate_from, enumerate_from-In, InOrder-enumerate_from, map-enumerate_from, person_among, own_count-some, cluster_of-placed}
 use Rattle.house_model.proofs.RegisterPlaceLemmas.{applicant_at}

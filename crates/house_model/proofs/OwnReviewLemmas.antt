@@ -10,20 +10,21 @@ use Rattle.house_base.specs.declared.plan.Owner.{Owner}
 use Rattle.house_base.specs.Grid.{cell}
 use Rattle.house_base.specs.Setting.{Setting, IsSetting, IsOwned, size, cluster_at, owner_from, may}
 use Rattle.house_base.proofs.Settings.{Contains-find, find-from_Contains, find_cases, owned-StandInTurn}
+use Rattle.house_base.specs.Text.{Text}
+use Rattle.peer_selection.specs.Laws.{IsAssigned, IsInClusterOf, with_points}
+use Rattle.peer_selection.specs.Lottery.{chance}
+use Rattle.peer_selection.specs.Profile.{Profile, Pairs, Points, score, rank, quota}
+use Rattle.peer_selection.proofs.ImpartialLemmas.{score-same, rank-same, quota-same, chance-same}
+use Rattle.peer_selection.proofs.PointLemmas.{given, AgreeOnPairs, score-agree, rank-of_scores, quota-of_scores, chance-of_scores}
+use Rattle.peer_selection.proofs.ValidLemmas.{is_valid-each}
 use Rattle.house_model.specs.declared.goal.Goal.TheVariants as goal
-use Rattle.house_model.specs.Laws.{IsAssigned, IsInClusterOf, with_points}
-use Rattle.house_model.specs.Lottery.{chance}
-use Rattle.house_model.specs.Profile.{Profile, Pairs, Points, score, rank, quota}
 use Rattle.house_model.specs.Register.{reviewer_at}
 use Rattle.house_model.specs.Report.{person_at}
 use Rattle.house_model.specs.Reviews.{points_of, profile}
 use Rattle.house_model.specs.Said.{setting, assigned}
-use Rattle.house_model.specs.Text.{Text, Lines}
+use Rattle.house_model.specs.Text.{Lines}
 use Rattle.house_model.specs.Isolation.{GiveAssignment, IsApplicantOf, without}
-use Rattle.house_model.proofs.ImpartialLemmas.{score-same, rank-same, quota-same, chance-same}
 use Rattle.house_model.proofs.IsolationLemmas.{setting-without, assigned-without, points_of-without}
-use Rattle.house_model.proofs.PointLemmas.{given, AgreeOnPairs, score-agree, rank-of_scores, quota-of_scores, chance-of_scores}
-use Rattle.house_model.proofs.ValidLemmas.{is_valid-each}
 
 -- Persons of a setting.
 

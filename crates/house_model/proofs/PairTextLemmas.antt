@@ -14,16 +14,17 @@ use Rattle.std.proofs.lemmas.List.Splits.{slice_split_at, slice_split_none}
 use Rattle.std.proofs.lemmas.List.Sums.{AllPass-from_list_all, list_all-from_AllPass}
 use Rattle.house_base.specs.declared.plan.Owner.{Owner}
 use Rattle.house_base.specs.Name.{is_name, is_name_byte}
-use Rattle.house_base.specs.Setting.{Setting, size, names_of}
-use Rattle.house_model.specs.Counting.{numbers_below}
-use Rattle.house_model.specs.Profile.{Pairs, proposals_of}
+use Rattle.house_base.specs.Setting.{Setting, size, names_of, name_at}
+use Rattle.house_base.specs.Text.{Text}
+use Rattle.house_base.proofs.InOrderLemmas.{In, All-In, map-In, filter-In, flat_map-In}
+use Rattle.peer_selection.specs.Counting.{numbers_below}
+use Rattle.peer_selection.specs.Profile.{Pairs, proposals_of}
 use Rattle.house_model.specs.ReadBack.{HasFormedNames, named_pairs}
-use Rattle.house_model.specs.Report.{line_of, name_at}
+use Rattle.house_model.specs.Report.{line_of}
 use Rattle.house_model.specs.Said.{pair_in}
-use Rattle.house_model.specs.Text.{Text, Lines, is_gap, is_empty, words, word, without_return, without_last_empty, lines}
+use Rattle.house_model.specs.Text.{Lines, is_gap, is_empty, words, word, without_return, without_last_empty, lines}
 use Rattle.house_model.specs.Texts.{pair_lines, pairs_text}
 use Rattle.house_model.proofs.AtIndexLemmas.{In-slice_get}
-use Rattle.house_model.proofs.InOrderLemmas.{In, All-In, map-In, filter-In, flat_map-In}
 use Rattle.house_model.proofs.ReviewerLemmas.{name_at-slice_get}
 
 -- Texts of which each stands on a line of its own.

@@ -7,29 +7,29 @@ use Rattle.std.proofs.lemmas.Bool.{false≢true, both_ways, and_parts, and_from,
 use Rattle.house_base.specs.declared.plan.Owner.{Owner}
 use Rattle.house_base.specs.Grid.{cell}
 use Rattle.house_base.specs.Name.{is_name}
-use Rattle.house_base.specs.Setting.{Setting, IsSetting, size, names_of, cluster_at, owner_from, may}
+use Rattle.house_base.specs.Setting.{Setting, IsSetting, size, names_of, cluster_at, owner_from, may, name_at}
+use Rattle.house_base.specs.Text.{Text}
+use Rattle.house_base.proofs.AmongLemmas.{same_text, bytes_eq-same}
+use Rattle.house_base.proofs.InOrderLemmas.{In, In-Contains, In-from_Contains, In-map, In-flat_map, All-In, InOrder-from_AllPairs}
+use Rattle.peer_selection.specs.Counting.{count_below}
+use Rattle.peer_selection.specs.FirstAssignment.{first_assignment}
+use Rattle.peer_selection.specs.Profile.{Pairs, Profile, is_valid, proposals_of, row}
+use Rattle.peer_selection.proofs.CountingLemmas.{count_below-none}
+use Rattle.peer_selection.proofs.DistanceLemmas.{row-holds}
+use Rattle.peer_selection.proofs.ValidLemmas.{is_valid-each}
 use Rattle.house_model.specs.declared.verb.Verb.{Verb}
 use Rattle.house_model.specs.declared.verb.Verb.TheVariants as verb
-use Rattle.house_model.specs.Counting.{count_below}
-use Rattle.house_model.specs.FirstAssignment.{first_assignment}
-use Rattle.house_model.specs.Profile.{Pairs, Profile, is_valid, proposals_of, row}
 use Rattle.house_model.specs.ReadBack.{HasFormedNames, named_pairs, AreReadBack}
 use Rattle.house_model.specs.Register.{Register, persons, person_of, own_count, cluster_of, own_people, people, owners, reviewer_at, name_pair, pair_among, open_setting, registered_setting}
-use Rattle.house_model.specs.Report.{name_at}
 use Rattle.house_model.specs.Said.{those, call_number, number, register, seed_of, setting, has_pairs, run_pairs, pair_in}
 use Rattle.house_model.specs.Seeds.{key_rank, drawn_cluster, drawn_persons, drawn_register, open_setting_in, setting_in, seeded_setting}
-use Rattle.house_model.specs.Text.{Text, Lines, word}
+use Rattle.house_model.specs.Text.{Lines, word}
 use Rattle.house_model.specs.Verbs.{verb_in, verb_number, commands, is_house}
 use Rattle.house_model.proofs.AtIndexLemmas.{same_index}
-use Rattle.house_model.proofs.CountingLemmas.{count_below-none}
-use Rattle.house_model.proofs.DistanceLemmas.{row-holds}
-use Rattle.house_model.proofs.GroupLemmas.{same_text, bytes_eq-same}
 use Rattle.house_model.proofs.HouseLineLemmas.{filter-within, find-within, command_of_house}
-use Rattle.house_model.proofs.InOrderLemmas.{In, In-Contains, In-from_Contains, In-map, In-flat_map, All-In, InOrder-from_AllPairs}
 use Rattle.house_model.proofs.OwnReviewLemmas.{same_name}
 use Rattle.house_model.proofs.PairTextLemmas.{named_pairs-In, pairs_text-read}
 use Rattle.house_model.proofs.ReviewerLemmas.{cases_owner, reviewer_at-some, reviewer_at-none, no_name, name_at-slice_get}
-use Rattle.house_model.proofs.ValidLemmas.{is_valid-each}
 
 -- The pairs by their names are the pairs.
 

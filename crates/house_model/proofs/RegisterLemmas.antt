@@ -6,10 +6,11 @@ use Rattle.std.proofs.lemmas.List.Elements.{All-push, All-nil}
 use Rattle.std.proofs.lemmas.List.Sums.{sum_by_push}
 use Rattle.house_base.specs.Name.{is_name}
 use Rattle.house_base.specs.declared.limits.TheConstants.{MOST_APPLICANTS, MOST_OWN}
-use Rattle.house_model.specs.Text.{Text}
-use Rattle.house_model.specs.Register.{Register, IsRegister, names, persons, placed_names, own_count, among}
-use Rattle.house_model.proofs.InOrderLemmas.{In, Apart, All-In, All-from_In, In-append_left, AllPairs-from_InOrder, InOrder-from_AllPairs, InOrder-push}
-use Rattle.house_model.proofs.GroupLemmas.{same_text, among-In, In-among, not_In, among-firsts, length-firsts, length-Apart}
+use Rattle.house_base.specs.Text.{Text, among}
+use Rattle.house_base.proofs.InOrderLemmas.{In, Apart, All-In, All-from_In, In-append_left, AllPairs-from_InOrder, InOrder-from_AllPairs, InOrder-push}
+use Rattle.house_base.proofs.AmongLemmas.{same_text, among-In, In-among, not_In}
+use Rattle.house_model.specs.Register.{Register, IsRegister, names, persons, placed_names, own_count}
+use Rattle.house_model.proofs.GroupLemmas.{among-firsts, length-firsts, length-Apart}
 
 -- What holds of a register, and how it is kept.
 

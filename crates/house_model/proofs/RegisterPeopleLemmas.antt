@@ -5,10 +5,11 @@ use Rattle.std.proofs.lemmas.Bool.{and_parts, false≢true}
 use Rattle.std.proofs.lemmas.List.{length-map, map-append}
 use Rattle.std.proofs.lemmas.List.FromFn.{length-enumerate_from}
 use Rattle.std.proofs.lemmas.List.Sums.{sum_by-cons, length-filter}
-use Rattle.house_model.specs.Text.{Text}
-use Rattle.house_model.specs.Register.{Register, IsRegister, names, persons, placed_names, own_count, own_people, people, entry, cluster_of, all_placed, among}
-use Rattle.house_model.proofs.InOrderLemmas.{In, InOrder, Apart, In-map, map-In, In-filter, In-flat_map, flat_map-In, InOrder-filter, InOrder-map, map-InOrder, InOrder-weaker, InOrder-flat_map, InOrder-from_AllPairs, same_element}
-use Rattle.house_model.proofs.GroupLemmas.{bytes_eq-same, among-In, In-firsts, firsts-In, Apart-firsts, group, In-group, sum_by-groups}
+use Rattle.house_base.specs.Text.{Text, among}
+use Rattle.house_base.proofs.InOrderLemmas.{In, InOrder, Apart, In-map, map-In, In-filter, In-flat_map, flat_map-In, InOrder-filter, InOrder-map, map-InOrder, InOrder-weaker, InOrder-flat_map, InOrder-from_AllPairs, same_element}
+use Rattle.house_base.proofs.AmongLemmas.{bytes_eq-same, among-In}
+use Rattle.house_model.specs.Register.{Register, IsRegister, names, persons, placed_names, own_count, own_people, people, entry, cluster_of, all_placed}
+use Rattle.house_model.proofs.GroupLemmas.{In-firsts, firsts-In, Apart-firsts, group, In-group, sum_by-groups}
 use Rattle.house_model.proofs.RegisterLemmas.{their_persons}
 
 -- The applicants in place order: each of the register stands among them once.

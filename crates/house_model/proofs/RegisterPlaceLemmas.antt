@@ -5,11 +5,12 @@ use Rattle.std.proofs.lemmas.Bool.{cond-true, cond-false, lt-ltb, not_from_false
 use Rattle.std.proofs.lemmas.Bool.Decides.{nat_tests}
 use Rattle.std.proofs.lemmas.Option.{slice_get-map, same_Some, slice_get_within}
 use Rattle.std.proofs.lemmas.List.Sums.{sum_by-cons}
-use Rattle.house_model.specs.Counting.{count_below}
-use Rattle.house_model.specs.Text.{Text}
+use Rattle.house_base.specs.Text.{Text}
+use Rattle.house_base.proofs.InOrderLemmas.{In, InOrder, Apart, InOrder-filter, InOrder-weaker, InOrder-flat_map}
+use Rattle.house_base.proofs.AmongLemmas.{bytes_eq-same, bytes_eq-other}
+use Rattle.peer_selection.specs.Counting.{count_below}
 use Rattle.house_model.specs.Register.{Register, persons, person_number, person_of, place, people, entry}
-use Rattle.house_model.proofs.InOrderLemmas.{In, InOrder, Apart, InOrder-filter, InOrder-weaker, InOrder-flat_map}
-use Rattle.house_model.proofs.GroupLemmas.{bytes_eq-same, bytes_eq-other, In-group}
+use Rattle.house_model.proofs.GroupLemmas.{In-group}
 use Rattle.house_model.proofs.RegisterPeopleLemmas.{Numbered, person_in, numbered, own_entries, entries, people-entries, In-entries, sum_by-entries, enumerate_from-In, InOrder-enumerate_from, Apart-persons}
 
 -- The place of each applicant: how many stand before it.

@@ -5,9 +5,9 @@ use Rattle.house_base.specs.declared.limits.TheConstants.{MOST_SEATS, FEWEST_CLU
 use Rattle.house_base.specs.declared.plan.Person.{Person}
 use Rattle.house_base.specs.declared.plan.Owner.{Owner}
 use Rattle.house_base.specs.Setting.{Setting, IsSetting, IsOwned, StandInTurn, cluster_at, number_at}
-use Rattle.house_model.specs.Text.{Text}
+use Rattle.house_base.specs.Text.{Text}
+use Rattle.house_base.proofs.InOrderLemmas.{In, InOrder, map-In, In-get_or, In-Contains, All-from_In, All-In, AllPairs-from_InOrder, InOrder-filter, InOrder-map}
 use Rattle.house_model.specs.Register.{Register, IsRegister, persons, own_count, own_people, people, owners, owners_from, entry, cluster_of, all_placed, square_of, open_setting, registered_setting}
-use Rattle.house_model.proofs.InOrderLemmas.{In, InOrder, map-In, In-get_or, In-Contains, All-from_In, All-In, AllPairs-from_InOrder, InOrder-filter, InOrder-map}
 use Rattle.house_model.proofs.GroupLemmas.{In-group}
 use Rattle.house_model.proofs.RegisterPeopleLemmas.{person_in, numbered, own_entries, entries, map-map, people-entries, entries-In, length-people, Apart-persons, Apart-names, Apart-numbers, number_below, number_among, length-own_people, own_count-some, cluster_of-placed, person_among, InOrder-enumerate_from}
 

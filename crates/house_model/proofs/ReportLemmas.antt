@@ -6,13 +6,13 @@ use Rattle.std.proofs.lemmas.List.Quantifiers.{position-Some}
 use Rattle.house_base.specs.declared.answer.Asides.{Asides}
 use Rattle.house_base.specs.declared.plan.Person.{Person}
 use Rattle.house_base.specs.Setting.{Setting, IsSetting, size, cluster_at}
-use Rattle.house_model.specs.Counting.{numbers_below}
-use Rattle.house_model.specs.Laws.{IsAssigned}
-use Rattle.house_model.specs.Profile.{Profile, denominator, quota, rank}
+use Rattle.peer_selection.specs.Counting.{numbers_below}
+use Rattle.peer_selection.specs.Laws.{IsAssigned}
+use Rattle.peer_selection.specs.Profile.{Profile, denominator, quota, rank}
+use Rattle.peer_selection.proofs.ClusterLemmas.{cluster_at-in_range, cumulative_quota-all, denominator-positive}
+use Rattle.peer_selection.proofs.ChanceLemmas.{chance-exact}
 use Rattle.house_model.specs.Report.{OutcomeParts, place_of_number, applicant_row, applicant_rows_of, outcome_of, outcome_text, report}
 use Rattle.house_model.specs.declared.outcome.ApplicantRow.{ApplicantRow}
-use Rattle.house_model.proofs.ClusterLemmas.{cluster_at-in_range, cumulative_quota-all, denominator-positive}
-use Rattle.house_model.proofs.ChanceLemmas.{chance-exact}
 
 -- The report with its chances read off the quotas, so that no draw is tried.
 

@@ -5,11 +5,10 @@ use Rattle.std.proofs.lemmas.Option.{slice_get-map, slice_get-get_or}
 use Rattle.house_base.specs.Name.{is_name}
 use Rattle.house_base.specs.declared.plan.Person.{Person}
 use Rattle.house_base.specs.declared.plan.Owner.{Owner}
-use Rattle.house_base.specs.Setting.{Setting, size, names_of, owner_from}
+use Rattle.house_base.specs.Setting.{Setting, size, names_of, owner_from, name_at}
 use Rattle.house_base.proofs.Settings.{Contains-find, find_cases}
+use Rattle.house_base.specs.Text.{Text}
 use Rattle.house_model.specs.Register.{reviewer_at}
-use Rattle.house_model.specs.Report.{name_at}
-use Rattle.house_model.specs.Text.{Text}
 
 -- The names of persons and of applicants by their places.
 

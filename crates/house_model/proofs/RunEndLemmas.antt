@@ -7,22 +7,23 @@ use Rattle.house_base.specs.declared.answer.Reason.{Reason}
 use Rattle.house_base.specs.declared.answer.Reason.TheVariants as reason
 use Rattle.house_base.specs.declared.phase.Phase.{Phase}
 use Rattle.house_base.specs.declared.phase.Phase.TheVariants as phase
+use Rattle.house_base.specs.Text.{Text}
+use Rattle.peer_selection.specs.FirstAssignment.{IsFirst, has_assignment, first_assignment}
+use Rattle.peer_selection.specs.Profile.{Pairs, is_valid}
+use Rattle.peer_selection.proofs.FirstAmongLemmas.{has_assignment-exact, has_assignment-none, first_assignment-first}
 use Rattle.house_model.specs.declared.goal.Goal.{Goal}
 use Rattle.house_model.specs.declared.goal.Goal.TheVariants as goal
 use Rattle.house_model.specs.declared.verb.Verb.{Verb}
 use Rattle.house_model.specs.declared.verb.Verb.TheVariants as verb
 use Rattle.house_model.specs.Ending.{Halt, Rule, Ended, halted, stop_after, stop_of, last_ended, is_drawn}
 use Rattle.house_model.specs.Faults.{fault, house_fault, first_of_reasons, looks_at_pairs, lacks_call, out_of_order, ill_formed, names_are_formed, numbers_are_in_range, is_known, is_unknown, is_too_many, breaks_seal, is_few, is_unplaced, is_invalid}
-use Rattle.house_model.specs.FirstAssignment.{IsFirst, has_assignment, first_assignment}
 use Rattle.house_model.specs.Headline.{ComesShort}
-use Rattle.house_model.specs.Profile.{Pairs, is_valid}
 use Rattle.house_model.specs.Register.{name_pair}
 use Rattle.house_model.specs.Reviews.{is_before_assignment}
 use Rattle.house_model.specs.Runs.{halt, searches, falls_short, through_assign, looked_at, settles, last_of, end_of}
 use Rattle.house_model.specs.Said.{has, phase_after, register, setting, has_pairs, run_pairs}
-use Rattle.house_model.specs.Text.{Text, Lines}
+use Rattle.house_model.specs.Text.{Lines}
 use Rattle.house_model.specs.Verbs.{verb_in, verb_number, commands, is_house}
-use Rattle.house_model.proofs.FirstAmongLemmas.{has_assignment-exact, has_assignment-none, first_assignment-first}
 use Rattle.house_model.proofs.HouseLineLemmas.{command_of_house}
 use Rattle.house_model.proofs.LateLineLemmas.{none_first, admitted-faultless, faultless-house, before-assign}
 

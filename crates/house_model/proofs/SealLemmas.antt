@@ -7,6 +7,8 @@ use Rattle.std.proofs.lemmas.Bool.{true≢false, false≢true, cases_Bool, both_
 use Rattle.std.proofs.lemmas.Option.{same_Some}
 use Rattle.house_base.specs.declared.phase.Phase.{Phase}
 use Rattle.house_base.specs.declared.phase.Phase.TheVariants as phase
+use Rattle.house_base.specs.Text.{Text}
+use Rattle.house_base.proofs.AmongLemmas.{same_text}
 use Rattle.house_model.specs.declared.goal.Goal.{Goal}
 use Rattle.house_model.specs.declared.goal.Goal.TheVariants as goal
 use Rattle.house_model.specs.declared.verb.Verb.{Verb}
@@ -18,9 +20,8 @@ use Rattle.house_model.specs.Reviews.{is_before_assignment}
 use Rattle.house_model.specs.Runs.{halt, end_of}
 use Rattle.house_model.specs.Said.{has, phase_after, number, register, denominator_of, seal_of, draw_of}
 use Rattle.house_model.specs.Seeds.{seed_draw, seed_seal}
-use Rattle.house_model.specs.Text.{Text, Lines, word}
+use Rattle.house_model.specs.Text.{Lines, word}
 use Rattle.house_model.specs.Verbs.{verb_in, verb_number, commands, is_house, allows}
-use Rattle.house_model.proofs.GroupLemmas.{same_text}
 use Rattle.house_model.proofs.HouseLineLemmas.{command_of_house}
 use Rattle.house_model.proofs.LateLineLemmas.{none_first, admitted-faultless, faultless-house, in_order, allowed, record-kept}
 use Rattle.house_model.proofs.RunEndLemmas.{accepted-keeps_seal, done_by}

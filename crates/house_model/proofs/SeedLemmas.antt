@@ -15,16 +15,15 @@ use Rattle.std.proofs.lemmas.List.Sorted.{ranks_by, sorted_far, IsPermutation-ma
 use Rattle.std.proofs.lemmas.List.Sums.{sum_by-cons}
 use Rattle.std.proofs.lemmas.Option.{slice_get-get_or, same_Some}
 use Rattle.house_base.specs.declared.limits.TheConstants.{MOST_SEATS, FEWEST_CLUSTERS, MOST_CLUSTERS, MOST_REVIEWS}
-use Rattle.house_base.specs.Setting.{owner_from}
-use Rattle.house_model.specs.Report.{name_at}
-use Rattle.house_model.specs.Counting.{numbers_below}
-use Rattle.house_model.specs.Register.{Register, IsRegister, persons, placed_names, among, cluster_of, all_placed, own_count, people, owners, open_setting, registered_setting, name_pair, reviewer_at}
+use Rattle.house_base.specs.Setting.{owner_from, name_at}
+use Rattle.house_base.specs.Text.{Text, among}
+use Rattle.house_base.proofs.AmongLemmas.{cases_text, same_text, bytes_eq-same, bytes_eq-other, In-among}
+use Rattle.house_base.proofs.InOrderLemmas.{In, InOrder, Apart, In-Contains, In-from_Contains, In-get_or, All-In, All-from_In, map-In, AllPairs-from_InOrder, InOrder-from_AllPairs, InOrder-weaker, InOrder-map, map-InOrder}
+use Rattle.peer_selection.specs.Counting.{numbers_below}
+use Rattle.peer_selection.proofs.CountingLemmas.{length-numbers_below, get_or-numbers_below}
+use Rattle.house_model.specs.Register.{Register, IsRegister, persons, placed_names, cluster_of, all_placed, own_count, people, owners, open_setting, registered_setting, name_pair, reviewer_at}
 use Rattle.house_model.specs.Seeds.{person_key, key_cmp, is_smaller_key, seeded_persons, seeded_register, seeded_setting, open_setting_in, setting_in, key_rank, drawn_cluster, drawn_persons, drawn_register}
-use Rattle.house_model.specs.Text.{Text}
 use Rattle.house_model.proofs.AtIndexLemmas.{same_index}
-use Rattle.house_model.proofs.CountingLemmas.{length-numbers_below, get_or-numbers_below}
-use Rattle.house_model.proofs.GroupLemmas.{cases_text, same_text, bytes_eq-same, bytes_eq-other, In-among}
-use Rattle.house_model.proofs.InOrderLemmas.{In, InOrder, Apart, In-Contains, In-from_Contains, In-get_or, All-In, All-from_In, map-In, AllPairs-from_InOrder, InOrder-from_AllPairs, InOrder-weaker, InOrder-map, map-InOrder}
 use Rattle.house_model.proofs.OrderedLemmas.{IsOrder}
 use Rattle.house_model.proofs.RegisterPeopleLemmas.{Apart-persons, map-map}
 use Rattle.house_model.proofs.RegisterPlaceLemmas.{index_in_order}

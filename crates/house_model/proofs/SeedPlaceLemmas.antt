@@ -1,12 +1,12 @@
 use Rattle.std.proofs.Common.{◌≡◌, ℕ, ◌+◌, ◌<◌, Bool, true, false, ◌&&◌, ◌||◌, ◌==◌, nat_lt, cond, List, length, map, bytes_eq, sum_by, Some, slice_get, option_map, sym, ap, ◌∙◌, subst, arith}
 use Rattle.std.specs.List.Sorted.{IsPermutation, IsSorted}
 use Rattle.std.proofs.lemmas.Option.{slice_get-map, slice_get_within, same_Some}
-use Rattle.house_model.specs.Counting.{count_below}
+use Rattle.house_base.specs.Text.{Text}
+use Rattle.house_base.proofs.InOrderLemmas.{In, InOrder, InOrder-from_AllPairs, InOrder-filter, InOrder-weaker, InOrder-flat_map}
+use Rattle.peer_selection.specs.Counting.{count_below}
 use Rattle.house_model.specs.Register.{Register, persons, person_of, entry}
 use Rattle.house_model.specs.Seeds.{person_key, key_cmp, key_rank, drawn_place, drawn_register}
-use Rattle.house_model.specs.Text.{Text}
 use Rattle.house_model.proofs.GroupLemmas.{In-group}
-use Rattle.house_model.proofs.InOrderLemmas.{In, InOrder, InOrder-from_AllPairs, InOrder-filter, InOrder-weaker, InOrder-flat_map}
 use Rattle.house_model.proofs.OrderedLemmas.{entries_in, people_in, people_in-entries, entries_in-each, sum_by-entries_in}
 use Rattle.house_model.proofs.RegisterPeopleLemmas.{Numbered, person_in, numbered, own_entries, enumerate_from-In, InOrder-enumerate_from}
 use Rattle.house_model.proofs.RegisterPlaceLemmas.{test_by_person, test_by_number, test_itself, count_by-enumerate_from, count_below-start, sum_by-agree, person_of-at, applicant_at, index_in_order}

@@ -6,15 +6,15 @@ use Rattle.std.proofs.lemmas.List.Sorted.{IsPermutation-refl, length_permutation
 use Rattle.house_base.specs.declared.limits.TheConstants.{DOLLAR}
 use Rattle.house_base.specs.Name.{is_name}
 use Rattle.house_base.specs.Setting.{IsSetting}
-use Rattle.house_model.specs.Profile.{denominator}
+use Rattle.house_base.specs.Text.{Text}
+use Rattle.house_base.proofs.InOrderLemmas.{In, All-In, All-from_In, map-In}
+use Rattle.peer_selection.specs.Profile.{denominator}
 use Rattle.house_model.specs.ReadBack.{HasFormedNames}
 use Rattle.house_model.specs.Register.{Register, IsRegister, persons, owners_from}
 use Rattle.house_model.specs.Said.{denominator_of}
 use Rattle.house_model.specs.Seeds.{seeded_persons, seeded_register, seeded_setting, open_setting_in, setting_in, drawn_persons, drawn_register}
-use Rattle.house_model.specs.Text.{Text}
 use Rattle.house_model.proofs.AtIndexLemmas.{In-slice_get}
 use Rattle.house_model.proofs.GroupLemmas.{firsts-In}
-use Rattle.house_model.proofs.InOrderLemmas.{In, All-In, All-from_In, map-In}
 use Rattle.house_model.proofs.KeyOrderLemmas.{drawn_persons-moves}
 use Rattle.house_model.proofs.OrderedLemmas.{IsOrder, people_in, name_of_number_in, IsSetting-setting_in}
 use Rattle.house_model.proofs.RegisterSettingLemmas.{names-owners_from, In-owners_from}

@@ -1,15 +1,16 @@
 -- What is settled for a goal holds of the lines that were taken.
 use Rattle.std.proofs.Common.{◌≡◌, ◌+◌, Bool, true, false, ◌||◌, cond, eqb, [], ◌∷◌, ◌++◌, length, None, is_some, refl, sym, ap, ◌∙◌, subst, inl, inr, arith}
 use Rattle.std.proofs.lemmas.Bool.{false≢true, cases_Bool, and_parts, cond-true, cond-false, eqb-true, false_from_ne_true}
+use Rattle.house_base.specs.Text.{Text}
+use Rattle.peer_selection.specs.FirstAssignment.{IsFirst, has_assignment}
+use Rattle.peer_selection.specs.Profile.{is_valid}
 use Rattle.house_model.specs.declared.goal.Goal.{Goal}
 use Rattle.house_model.specs.declared.goal.Goal.TheVariants as goal
 use Rattle.house_model.specs.declared.verb.Verb.TheVariants as verb
 use Rattle.house_model.specs.Ending.{Rule, Ended, stop_after, in_force_after, in_force}
-use Rattle.house_model.specs.FirstAssignment.{IsFirst, has_assignment}
-use Rattle.house_model.specs.Profile.{is_valid}
 use Rattle.house_model.specs.Runs.{halt, through_assign, looked_at, settles, end_of, taken}
 use Rattle.house_model.specs.Said.{has, setting, has_pairs, run_pairs}
-use Rattle.house_model.specs.Text.{Text, Lines}
+use Rattle.house_model.specs.Text.{Lines}
 use Rattle.house_model.specs.Verbs.{verb_in, verb_number, commands}
 use Rattle.house_model.proofs.LateLineLemmas.{SaysNothing, HaveSameRecord, record-push, setting-record, run_pairs-record, has_pairs-record, none_first}
 use Rattle.house_model.proofs.RunEndLemmas.{settled-parts, accepted-some, accepted-valid, accepted-first}

@@ -3,6 +3,8 @@ use Rattle.std.specs.Cmp.Lexicographic.{pointwise}
 use Rattle.std.specs.Option.{option_map_or}
 use Rattle.std.specs.Str.{bytes_eq}
 use Rattle.house_base.specs.declared.answer.Reason.{Reason}
+use Rattle.house_base.specs.Text.{Text}
+use Rattle.peer_selection.specs.Shortage.{Places, IsShortage, assignment_demand}
 use Rattle.house_model.specs.declared.form.Form.{Form}
 use Rattle.house_model.specs.declared.form.Form.TheVariants as form
 use Rattle.house_model.specs.declared.goal.Goal.{Goal}
@@ -12,8 +14,7 @@ use Rattle.house_model.specs.Heard.{heard, is_over}
 use Rattle.house_model.specs.Report.{line_of, refused_words}
 use Rattle.house_model.specs.Runs.{end_of, ends_run, report_of, taken}
 use Rattle.house_model.specs.Said.{assigned, setting}
-use Rattle.house_model.specs.Shortage.{Places, IsShortage, assignment_demand}
-use Rattle.house_model.specs.Text.{Text, Lines}
+use Rattle.house_model.specs.Text.{Lines}
 use Rattle.house_model.specs.Texts.{short_text, pairs_text}
 
 -- How a call of the program is to end.

@@ -8,14 +8,15 @@ use Rattle.house_base.specs.Seed.{is_seed}
 use Rattle.house_base.specs.declared.answer.Reason.{Reason}
 use Rattle.house_base.specs.declared.answer.Reason.TheVariants as reason
 use Rattle.house_base.specs.declared.limits.TheConstants.{MOST_APPLICANTS, MOST_SEATS, FEWEST_CLUSTERS, MOST_CLUSTERS, MOST_REVIEWS, MOST_OWN}
+use Rattle.house_base.specs.Text.{Text, among}
+use Rattle.peer_selection.specs.Profile.{is_valid}
 use Rattle.house_model.specs.declared.goal.Goal.{Goal}
 use Rattle.house_model.specs.declared.goal.Goal.TheVariants as goal
 use Rattle.house_model.specs.declared.verb.Verb.{Verb}
 use Rattle.house_model.specs.declared.verb.Verb.TheVariants as verb
-use Rattle.house_model.specs.Profile.{is_valid}
-use Rattle.house_model.specs.Text.{Text, Lines, words, word}
+use Rattle.house_model.specs.Text.{Lines, words, word}
 use Rattle.house_model.specs.Verbs.{verb_in, commands, is_house, has_count, allows, is_hex64}
-use Rattle.house_model.specs.Register.{Register, names, persons, own_count, placed_names, among, pair_among, all_placed}
+use Rattle.house_model.specs.Register.{Register, names, persons, own_count, placed_names, pair_among, all_placed}
 use Rattle.house_model.specs.Said.{has, phase_after, clusters_of, applicant_in, register, denominator_of, setting, seal_of, has_pairs, run_pairs}
 use Rattle.house_model.specs.Seeds.{seed_seal}
 

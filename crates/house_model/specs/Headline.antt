@@ -1,21 +1,22 @@
 use Rattle.std.specs.Prelude.{◌≡◌, ℕ, ◌+◌, ◌<◌, ◌∷◌, ◌++◌, false, List, None, IsTrue}
 use Rattle.house_base.specs.Setting.{size}
+use Rattle.house_base.specs.Text.{Text}
+use Rattle.peer_selection.specs.Counting.{count_below, sum_below}
+use Rattle.peer_selection.specs.Laws.{IsAssigned, IsRounded}
+use Rattle.peer_selection.specs.Lottery.{seats, selected, chance}
+use Rattle.peer_selection.specs.Profile.{Pairs, denominator, is_valid, quota}
 use Rattle.house_model.specs.declared.goal.Goal.{Goal}
 use Rattle.house_model.specs.declared.goal.Goal.TheVariants as goal
 use Rattle.house_model.specs.declared.verb.Verb.TheVariants as verb
-use Rattle.house_model.specs.Counting.{count_below, sum_below}
 use Rattle.house_model.specs.Ending.{Ended, stop_of}
 use Rattle.house_model.specs.Faults.{fault}
 use Rattle.house_model.specs.Interleaving.{AreInterleaved}
 use Rattle.house_model.specs.Isolation.{without, IsApplicantOf}
-use Rattle.house_model.specs.Laws.{IsAssigned, IsRounded}
-use Rattle.house_model.specs.Lottery.{seats, selected, chance}
-use Rattle.house_model.specs.Profile.{Pairs, denominator, is_valid, quota}
 use Rattle.house_model.specs.Reviews.{profile}
 use Rattle.house_model.specs.Said.{register, denominator_of, setting, draw_of}
 use Rattle.house_model.specs.Seeds.{seed_draw, seed_seal}
 use Rattle.house_model.specs.Verbs.{commands}
-use Rattle.house_model.specs.Text.{Text, Lines}
+use Rattle.house_model.specs.Text.{Lines}
 use Rattle.house_model.specs.Runs.{end_of, halt, report_of, searches}
 
 -- What is promised of the lines of a call whose report is printed.

@@ -1,7 +1,8 @@
 use Rattle.std.specs.Prelude.{ℕ, Bool, List, length, take, nat_lt, ◌||◌, ◌==◌, if◌then◌else◌, [], ◌∷◌, map}
 use Rattle.std.specs.List.{slice_split}
+use Rattle.house_base.specs.Text.{Text}
 use Rattle.house_model.specs.declared.limits.TheConstants.{MOST_BYTES, MOST_LINES}
-use Rattle.house_model.specs.Text.{Text, Lines, lines, without_return}
+use Rattle.house_model.specs.Text.{Lines, lines, without_return}
 
 -- an input over the limits on its bytes or on its lines
 unfoldable pub is_over : List ℕ → Bool

@@ -2,7 +2,8 @@ use Rattle.std.specs.Prelude.{◌≡◌, ℕ, Bool, [], ◌∷◌, ◌++◌, len
 use Rattle.std.specs.Str.{bytes_eq}
 use Rattle.house_base.specs.declared.phase.Phase.{Phase}
 use Rattle.house_base.specs.declared.phase.Phase.TheVariants as phase
-use Rattle.house_model.specs.Text.{Text, Lines, words, word}
+use Rattle.house_base.specs.Text.{Text}
+use Rattle.house_model.specs.Text.{Lines, words, word}
 use Rattle.house_model.specs.Verbs.{is_review}
 use Rattle.house_model.specs.Said.{phase_after}
 use Rattle.house_model.specs.Isolation.{HaveSameHouse}

@@ -1,10 +1,11 @@
 use Rattle.std.specs.Prelude.{◌≡◌, ℕ, ◌<◌, Bool, None, filter, not, ◌&&◌, IsTrue}
 use Rattle.std.specs.Str.{bytes_eq}
 use Rattle.house_base.specs.Setting.{IsSetting, size}
+use Rattle.house_base.specs.Text.{Text}
+use Rattle.peer_selection.specs.Profile.{is_valid}
 use Rattle.house_model.specs.declared.goal.Goal.TheVariants as goal
-use Rattle.house_model.specs.Text.{Text, Lines, word}
+use Rattle.house_model.specs.Text.{Lines, word}
 use Rattle.house_model.specs.Verbs.{is_review, is_house}
-use Rattle.house_model.specs.Profile.{is_valid}
 use Rattle.house_model.specs.Report.{person_at}
 use Rattle.house_model.specs.Said.{setting, assigned}
 use Rattle.house_model.specs.Ending.{Rule}

@@ -1,10 +1,3 @@
-pub mod Counting
-pub mod Split
-pub mod Profile
-pub mod Shortage
-pub mod FirstAssignment
-pub mod Lottery
-pub mod Marks
 pub mod Naming
 pub mod Report
 pub mod Text
@@ -22,8 +15,6 @@ pub mod ReadBack
 pub mod Heard
 pub mod Due
 pub mod Examples
-pub mod Laws
 pub mod Isolation
 pub mod Interleaving
 pub mod Headline
-pub mod Worked

@@ -1,8 +1,7 @@
 use Rattle.std.specs.Prelude.{◌≡◌, ◌<◌, ℕ, List, Some, Contains, length, map, slice_get}
 use Rattle.house_base.specs.declared.plan.Owner.{Owner}
-use Rattle.house_base.specs.Setting.{Setting, IsOwned, size, number_at}
-use Rattle.house_model.specs.Report.{name_at}
-use Rattle.house_model.specs.Text.{Text}
+use Rattle.house_base.specs.Setting.{Setting, IsOwned, size, number_at, name_at}
+use Rattle.house_base.specs.Text.{Text}
 
 -- A setting has the names of a register's applicants and persons: each applicant has the name that stands at its
 -- register number, and belongs to a person with the name of its person there.

@@ -1,11 +1,11 @@
 use Rattle.std.specs.Prelude.{◌≡◌, List, All, IsTrue, map, filter, flat_map, not, ◌&&◌}
 use Rattle.house_base.specs.Name.{is_name}
-use Rattle.house_base.specs.Setting.{Setting}
+use Rattle.house_base.specs.Setting.{Setting, name_at}
+use Rattle.house_base.specs.Text.{Text}
+use Rattle.peer_selection.specs.Profile.{Pairs, proposals_of}
 use Rattle.house_model.specs.declared.verb.Verb.TheVariants as verb
-use Rattle.house_model.specs.Profile.{Pairs, proposals_of}
-use Rattle.house_model.specs.Report.{name_at}
 use Rattle.house_model.specs.Said.{those, setting, run_pairs}
-use Rattle.house_model.specs.Text.{Text, Lines, lines}
+use Rattle.house_model.specs.Text.{Lines, lines}
 use Rattle.house_model.specs.Texts.{pairs_text}
 use Rattle.house_model.specs.Verbs.{is_house, commands}
 

@@ -3,15 +3,14 @@ use Rattle.std.specs.List.{list_any, list_all, enumerate_from}
 use Rattle.std.specs.Option.{option_map_or}
 use Rattle.std.specs.Str.{bytes_eq}
 use Rattle.house_base.specs.Name.{is_name}
+use Rattle.house_base.specs.Text.{Text, among}
 use Rattle.house_base.specs.declared.limits.TheConstants.{MOST_APPLICANTS, MOST_OWN}
 use Rattle.house_base.specs.declared.plan.Person.{Person}
 use Rattle.house_base.specs.declared.plan.Owner.{Owner}
 use Rattle.house_base.specs.Grid.{Square}
-use Rattle.house_base.specs.Setting.{Setting, owner_from}
-use Rattle.house_model.specs.Counting.{numbers_below, count_below}
-use Rattle.house_model.specs.Profile.{Pairs}
-use Rattle.house_model.specs.Report.{name_at}
-use Rattle.house_model.specs.Text.{Text}
+use Rattle.house_base.specs.Setting.{Setting, owner_from, name_at}
+use Rattle.peer_selection.specs.Counting.{numbers_below, count_below}
+use Rattle.peer_selection.specs.Profile.{Pairs}
 
 -- What the opening of a call puts on record: the applicants with their persons, in register order; the
 -- persons that were put into clusters; the pairs of a person and an applicant that may not be; and those of a
@@ -47,10 +46,7 @@ placed_names reg = map (λ p. p.0) reg.placed
 unfoldable pub cluster_of : Register → Text → ℕ
 cluster_of reg person = option_map_or (λ p. p.1) (find (λ p. bytes_eq p.0 person) reg.placed) 0
 
--- whether a text is among these, and whether a pair of texts is
-unfoldable pub among : List Text → Text → Bool
-among texts t = list_any (bytes_eq t) texts
-
+-- whether a pair of texts is among these
 unfoldable pub pair_among : List (Text × Text) → Text → Text → Bool
 pair_among ps a b = list_any (λ p. bytes_eq p.0 a && bytes_eq p.1 b) ps
 

@@ -1,14 +1,14 @@
-use Rattle.std.specs.Prelude.{ℕ, ◌+◌, Bool, List, [], ◌∷◌, ◌++◌, length, map, find, position, flat_map, slice_get, decimal, codes, ◌&&◌, ◌==◌, nat_le, nat_lt, if◌then◌else◌}
+use Rattle.std.specs.Prelude.{ℕ, ◌+◌, Bool, List, [], ◌∷◌, ◌++◌, length, map, find, position, flat_map, decimal, codes, ◌&&◌, ◌==◌, nat_le, nat_lt, if◌then◌else◌}
 use Rattle.std.specs.List.{join_with_byte, list_all, enumerate_from}
 use Rattle.std.specs.Option.{option_map_or}
 use Rattle.std.specs.Str.{bytes_eq}
 use Rattle.house_base.specs.Answer.{reason_word}
 use Rattle.house_base.specs.declared.answer.Asides.{Asides}
 use Rattle.house_base.specs.declared.answer.Reason.{Reason}
-use Rattle.house_base.specs.Setting.{Setting, size, cluster_at}
-use Rattle.house_model.specs.Counting.{numbers_below}
-use Rattle.house_model.specs.Profile.{Profile, denominator, score, cluster_cents, quota, rank}
-use Rattle.house_model.specs.Lottery.{seats, filled, empty_seats, selected, chance}
+use Rattle.house_base.specs.Setting.{Setting, size, cluster_at, name_at}
+use Rattle.peer_selection.specs.Counting.{numbers_below}
+use Rattle.peer_selection.specs.Profile.{Profile, denominator, score, cluster_cents, quota, rank}
+use Rattle.peer_selection.specs.Lottery.{seats, filled, empty_seats, selected, chance}
 use Rattle.house_model.specs.declared.outcome.ClusterRow.{ClusterRow}
 use Rattle.house_model.specs.declared.outcome.ApplicantRow.{ApplicantRow}
 
@@ -110,10 +110,7 @@ refused_words line reason = codes "refused" ∷ decimal line ∷ reason_word rea
 
 -- The outcome of a profile at a draw.
 
--- the name of the applicant at a place, and that of the person to whom it belongs
-unfoldable pub name_at : Setting → ℕ → List ℕ
-name_at s place = option_map_or (λ person. person.name) (slice_get s.people place) []
-
+-- the name of the person to whom the applicant at a place belongs
 unfoldable pub person_at : Setting → ℕ → List ℕ
 person_at s place = option_map_or (λ owner. owner.name)
     (find (λ owner. nat_le owner.first place && nat_lt place (owner.first + owner.own)) s.owners) []

@@ -1,7 +1,7 @@
 use Rattle.std.specs.Prelude.{ℕ, Bool, false, Option, Some, None, List, [], ◌∷◌, ◌++◌, length, filter, find, position, reverse, slice_get, ◌==◌, ◌&&◌, not, if◌then◌else◌}
 use Rattle.std.specs.Option.{option_map_or, is_none}
 use Rattle.std.specs.Str.{bytes_eq}
-use Rattle.house_base.specs.Setting.{Setting}
+use Rattle.house_base.specs.Setting.{Setting, name_at}
 use Rattle.house_base.specs.declared.limits.TheConstants.{MOST_POINTS}
 use Rattle.house_base.specs.declared.answer.Asides.{Asides}
 use Rattle.house_base.specs.declared.answer.Kind.{Kind}
@@ -9,13 +9,13 @@ use Rattle.house_base.specs.declared.answer.Kind.TheVariants as kind
 use Rattle.house_base.specs.declared.phase.Phase.{Phase}
 use Rattle.house_base.specs.declared.phase.Phase.TheVariants as phase
 use Rattle.house_base.specs.Answer.{counted}
+use Rattle.house_base.specs.Text.{Text, among}
+use Rattle.peer_selection.specs.Profile.{Pairs, Profile}
 use Rattle.house_model.specs.declared.goal.Goal.{Goal}
 use Rattle.house_model.specs.declared.goal.Goal.TheVariants as goal
-use Rattle.house_model.specs.Profile.{Pairs, Profile}
-use Rattle.house_model.specs.Report.{name_at}
-use Rattle.house_model.specs.Text.{Text, Lines, words, word}
+use Rattle.house_model.specs.Text.{Lines, words, word}
 use Rattle.house_model.specs.Verbs.{is_review}
-use Rattle.house_model.specs.Register.{names, persons, reviewer_at, among}
+use Rattle.house_model.specs.Register.{names, persons, reviewer_at}
 use Rattle.house_model.specs.Said.{register, phase_after, number, setting, assigned}
 use Rattle.house_model.specs.Faults.{is_within}
 

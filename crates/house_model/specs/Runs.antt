@@ -1,16 +1,17 @@
 use Rattle.std.specs.Prelude.{Bool, true, false, Option, Some, None, is_some, [], ◌∷◌, List, ℕ, ◌&&◌, ◌||◌, not, if◌then◌else◌}
 use Rattle.std.specs.Option.{option_map_or}
+use Rattle.house_base.specs.Text.{Text}
+use Rattle.peer_selection.specs.FirstAssignment.{has_assignment}
 use Rattle.house_model.specs.declared.goal.Goal.{Goal}
 use Rattle.house_model.specs.declared.goal.Goal.TheVariants as goal
 use Rattle.house_model.specs.declared.verb.Verb.{Verb}
 use Rattle.house_model.specs.declared.verb.Verb.TheVariants as verb
 use Rattle.house_model.specs.Ending.{Halt, Ended, halted, stop_of, in_force, last_ended}
 use Rattle.house_model.specs.Faults.{fault, looks_at_pairs}
-use Rattle.house_model.specs.FirstAssignment.{has_assignment}
 use Rattle.house_model.specs.Report.{report}
 use Rattle.house_model.specs.Reviews.{profile, asides_of}
 use Rattle.house_model.specs.Said.{has, has_pairs, setting, draw_of}
-use Rattle.house_model.specs.Text.{Text, Lines}
+use Rattle.house_model.specs.Text.{Lines}
 use Rattle.house_model.specs.Verbs.{verb_in, commands}
 
 -- How a run of a list of lines goes for a goal.

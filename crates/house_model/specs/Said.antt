@@ -7,13 +7,14 @@ use Rattle.house_base.specs.Setting.{Setting}
 use Rattle.house_base.specs.declared.limits.TheConstants.{DOLLAR}
 use Rattle.house_base.specs.declared.phase.Phase.{Phase}
 use Rattle.house_base.specs.declared.phase.Phase.TheVariants as phase
+use Rattle.house_base.specs.Text.{Text}
+use Rattle.peer_selection.specs.FirstAssignment.{first_assignment, no_pairs}
+use Rattle.peer_selection.specs.Profile.{Pairs}
 use Rattle.house_model.specs.declared.goal.Goal.{Goal}
 use Rattle.house_model.specs.declared.goal.Goal.TheVariants as goal
 use Rattle.house_model.specs.declared.verb.Verb.{Verb}
 use Rattle.house_model.specs.declared.verb.Verb.TheVariants as verb
-use Rattle.house_model.specs.FirstAssignment.{first_assignment, no_pairs}
-use Rattle.house_model.specs.Profile.{Pairs}
-use Rattle.house_model.specs.Text.{Text, Lines, words, word}
+use Rattle.house_model.specs.Text.{Lines, words, word}
 use Rattle.house_model.specs.Verbs.{commands}
 use Rattle.house_model.specs.Register.{Register, persons, name_pair}
 use Rattle.house_model.specs.Seeds.{seed_draw, seeded_setting}

@@ -6,9 +6,9 @@ use Rattle.std.specs.Ordering.{is_lt, nat_cmp, ordering_then}
 use Rattle.std.specs.declared.cmp.Ordering.{Ordering}
 use Rattle.sha2.specs.Sha256.{sha256}
 use Rattle.house_base.specs.Setting.{Setting}
-use Rattle.house_model.specs.Counting.{numbers_below, count_below}
+use Rattle.house_base.specs.Text.{Text}
+use Rattle.peer_selection.specs.Counting.{numbers_below, count_below}
 use Rattle.house_model.specs.Register.{Register, persons, person_of, own_people, owners_from, square_of, name_pair, registered_setting}
-use Rattle.house_model.specs.Text.{Text}
 
 -- What is drawn from public words. A digest is that of SHA-256, as FIPS 180-4 defines it.
 

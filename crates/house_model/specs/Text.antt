@@ -1,11 +1,9 @@
 use Rattle.std.specs.Prelude.{ℕ, ◌-◌, Bool, List, [], ◌∷◌, length, map, filter, take, slice_index, slice_get, ◌==◌, ◌||◌, not, if◌then◌else◌}
 use Rattle.std.specs.List.{slice_split}
 use Rattle.std.specs.Option.{option_map_or}
+use Rattle.house_base.specs.Text.{Text}
 
--- a line or a word, as its bytes; the lines of a file
-abbrev pub Text : Type 0
-Text = List ℕ
-
+-- the lines of a file
 abbrev pub Lines : Type 0
 Lines = List (List ℕ)
 

@@ -1,10 +1,10 @@
 use Rattle.std.specs.Prelude.{ℕ, ◌-◌, List, [], ◌∷◌, ◌++◌, map, filter, flat_map, decimal, codes}
 use Rattle.house_base.specs.declared.plan.Owner.{Owner}
-use Rattle.house_base.specs.Setting.{Setting, size}
-use Rattle.house_model.specs.Counting.{numbers_below}
-use Rattle.house_model.specs.Profile.{Pairs, proposals_of}
-use Rattle.house_model.specs.Report.{line_of, name_at}
-use Rattle.house_model.specs.Shortage.{Places, allowed, needed_in, room_outside, assignment_demand}
+use Rattle.house_base.specs.Setting.{Setting, size, name_at}
+use Rattle.peer_selection.specs.Counting.{numbers_below}
+use Rattle.peer_selection.specs.Profile.{Pairs, proposals_of}
+use Rattle.peer_selection.specs.Shortage.{Places, allowed, needed_in, room_outside, assignment_demand}
+use Rattle.house_model.specs.Report.{line_of}
 
 -- The texts of the answers that are not reports.
 

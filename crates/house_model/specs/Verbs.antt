@@ -3,9 +3,10 @@ use Rattle.std.specs.List.{list_all}
 use Rattle.std.specs.Str.{bytes_eq}
 use Rattle.house_base.specs.declared.phase.Phase.{Phase}
 use Rattle.house_base.specs.declared.phase.Phase.TheVariants as phase
+use Rattle.house_base.specs.Text.{Text}
 use Rattle.house_model.specs.declared.verb.Verb.{Verb}
 use Rattle.house_model.specs.declared.verb.Verb.TheVariants as verb
-use Rattle.house_model.specs.Text.{Text, is_blank, word}
+use Rattle.house_model.specs.Text.{is_blank, word}
 
 -- what a word commands
 unfoldable pub verb_of : Text → Verb

@@ -3,15 +3,16 @@
 
 ghost use Rattle.std.specs.Prelude.{◌≡◌, ◌≢◌, ℕ, ◌↔◌, [], ◌∷◌, codes};
 ghost use Rattle.house_base.specs.Setting.{cluster_at};
+ghost use Rattle.house_base.specs.Text.{Text};
+ghost use Rattle.peer_selection.specs.Lottery.{chance};
+ghost use Rattle.peer_selection.specs.Profile.{score, rank, quota};
 ghost use Rattle.house_model.specs.declared.goal.Goal.{Goal};
 ghost use Rattle.house_model.specs.Ending.{Rule, Ended, ended, unnumbered};
 ghost use Rattle.house_model.specs.Isolation.{without, GiveAssignment, IsApplicantOf, IgnoresReviews};
-ghost use Rattle.house_model.specs.Lottery.{chance};
-ghost use Rattle.house_model.specs.Profile.{score, rank, quota};
 ghost use Rattle.house_model.specs.Register.{reviewer_at};
 ghost use Rattle.house_model.specs.Reviews.{profile, points_of};
 ghost use Rattle.house_model.specs.Said.{register, setting, assigned, seed_of, seal_of, phase_after, draw_of};
-ghost use Rattle.house_model.specs.Text.{Text, Lines};
+ghost use Rattle.house_model.specs.Text.{Lines};
 ghost use Rattle.house_model.specs.Runs.{halt, end_of, taken};
 
 /// Without the review lines of one person the lines give the same call, assignment, seed, seal, phase and draw.

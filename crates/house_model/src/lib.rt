@@ -1,26 +1,22 @@
-//! The definitions of the mechanism and of the record that a command file is, and their laws.
+//! The definitions of the record that a command file is, and their laws.
 
 #![tactic(auto)]
 
 pub mod command;
 pub mod examples;
 pub mod faults;
-pub mod first_laws;
 pub mod form;
 pub mod goal;
 pub mod headline;
 pub mod interleaving;
 pub mod isolation;
-pub mod laws;
 pub mod limits;
-pub mod mark_laws;
 pub mod outcome;
 pub mod read_back;
 pub mod register_laws;
 pub mod runs;
 pub mod seed_laws;
 pub mod verb;
-pub mod worked;
 
 pub use command::Command;
 pub use form::Form;

@@ -3,8 +3,8 @@
 
 ghost use Rattle.std.specs.Prelude.{◌≡◌, ℕ, ◌<◌, IsTrue, map};
 ghost use Rattle.house_base.specs.Setting.{Setting, IsSetting, size};
+ghost use Rattle.peer_selection.specs.Profile.{Pairs, is_valid};
 ghost use Rattle.house_model.specs.Examples as call;
-ghost use Rattle.house_model.specs.Profile.{Pairs, is_valid};
 ghost use Rattle.house_model.specs.ReadBack.{HasFormedNames, named_pairs, AreReadBack};
 ghost use Rattle.house_model.specs.Said.{setting, run_pairs, pair_in};
 ghost use Rattle.house_model.specs.Text.{Lines, lines};

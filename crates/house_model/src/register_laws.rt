@@ -4,12 +4,12 @@ ghost use Rattle.std.specs.Prelude.{◌≡◌, ◌≢◌, ℕ, ◌<◌, ◌≤�
 ghost use Rattle.std.specs.List.Sorted.{IsPermutation};
 ghost use Rattle.house_base.specs.declared.limits.TheConstants.{MOST_SEATS, FEWEST_CLUSTERS, MOST_CLUSTERS, MOST_REVIEWS};
 ghost use Rattle.house_base.specs.Setting.{IsSetting};
-ghost use Rattle.house_model.specs.Profile.{denominator};
+ghost use Rattle.house_base.specs.Text.{Text};
+ghost use Rattle.peer_selection.specs.Profile.{denominator};
 ghost use Rattle.house_model.specs.ReadBack.{HasFormedNames};
 ghost use Rattle.house_model.specs.Register.{Register, IsRegister, persons, all_placed, registered_setting, people, place, entry};
 ghost use Rattle.house_model.specs.Said.{denominator_of};
 ghost use Rattle.house_model.specs.Seeds.{drawn_persons, seeded_setting};
-ghost use Rattle.house_model.specs.Text.{Text};
 
 /// A register makes a setting, once somebody applied and each person has its cluster.
 pub fn register_makes_setting()

@@ -1,18 +1,19 @@
 //! Laws of how runs end. Each is proved once, here, and the functions have nothing to do.
 
 ghost use Rattle.std.specs.Prelude.{◌≡◌, ◌↔◌, ℕ, false, List, Some, None, IsTrue};
+ghost use Rattle.house_base.specs.Text.{Text};
+ghost use Rattle.peer_selection.specs.FirstAssignment.{IsFirst, has_assignment};
+ghost use Rattle.peer_selection.specs.Profile.{is_valid};
 ghost use Rattle.house_model.specs.declared.goal.Goal.{Goal};
 ghost use Rattle.house_model.specs.declared.goal.Goal.TheVariants as goal;
 ghost use Rattle.house_model.specs.declared.verb.Verb.TheVariants as verb;
 ghost use Rattle.house_model.specs.Ending.{Ended};
 ghost use Rattle.house_model.specs.Faults.{fault, looks_at_pairs};
-ghost use Rattle.house_model.specs.FirstAssignment.{IsFirst, has_assignment};
 ghost use Rattle.house_model.specs.Headline.{ComesShort, IsDrawnUnder};
-ghost use Rattle.house_model.specs.Profile.{is_valid};
 ghost use Rattle.house_model.specs.Runs.{halt, looked_at, end_of, taken};
 ghost use Rattle.house_model.specs.Said.{setting, seal_of, has_pairs, run_pairs, assigned};
 ghost use Rattle.house_model.specs.Seeds.{seed_seal};
-ghost use Rattle.house_model.specs.Text.{Text, Lines, word};
+ghost use Rattle.house_model.specs.Text.{Lines, word};
 ghost use Rattle.house_model.specs.Verbs.{commands};
 
 /// A run ends short exactly where the lines that are looked at come to an assignment that has no fault and is looked

@@ -2,9 +2,9 @@
 
 ghost use Rattle.std.specs.Prelude.{◌≡◌, ℕ, ◌+◌, ◌%◌, ◌<◌, Some, List, [], length, map, flat_map, slice_index_or, slice_get};
 ghost use Rattle.std.specs.List.Sorted.{IsPermutation, IsSorted};
+ghost use Rattle.house_base.specs.Text.{Text};
 ghost use Rattle.house_model.specs.Register.{Register, persons, own_people, entry};
 ghost use Rattle.house_model.specs.Seeds.{person_key, key_cmp, drawn_persons, drawn_cluster, drawn_place, drawn_register};
-ghost use Rattle.house_model.specs.Text.{Text};
 
 /// Sorted by their keys the persons stand by their ranks, the clusters are given to them in turn, and each applicant
 /// stands at its place.

@@ -12,6 +12,7 @@ use Rattle.house_core.specs.declared.round.Stop.{Stop}
 use Rattle.house_core.specs.declared.round.Stop.TheVariants as stop
 use Rattle.house_core.specs.declared.step.EndFault.TheVariants as fault
 use Rattle.house_core.proofs.EndingLemmas.{in_force_all}
+use Rattle.house_base.specs.Text.{Text}
 use Rattle.house_model.specs.declared.goal.Goal.{Goal}
 use Rattle.house_model.specs.declared.goal.Goal.TheVariants as goal
 use Rattle.house_model.specs.declared.limits.TheConstants.{MOST_LINES}
@@ -23,7 +24,7 @@ use Rattle.house_model.specs.Report.{OutcomeParts, line_of, outcome_text, refuse
 use Rattle.house_model.specs.Reviews.{profile}
 use Rattle.house_model.specs.Runs.{end_of, ends_run, halt, last_of, looked_at, report_of, settles, taken}
 use Rattle.house_model.specs.Said.{has, phase_after}
-use Rattle.house_model.specs.Text.{Text, Lines}
+use Rattle.house_model.specs.Text.{Lines}
 use Rattle.house_top.proofs.EndLemmas.{end_by, taken_by}
 use Rattle.house_top.specs.Call.{IsAnswered, IsDueAnswer, IsEndAnswer, status_of}
 use Rattle.house_top.specs.Hearing.{HasLines, TellsEnd}

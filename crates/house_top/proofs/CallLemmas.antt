@@ -4,6 +4,7 @@ use Rattle.std.specs.Prelude.{IfSome, MatchOption}
 use Rattle.std.specs.Option.{option_map_or}
 use Rattle.std.proofs.lemmas.Option.{IfSome_then}
 use borrow.Enum.Total.{values_d}
+use Rattle.house_base.specs.Text.{Text}
 use Rattle.house_model.specs.contracts.form.Form.{enum as the_form}
 use Rattle.house_model.specs.declared.form.Form.{Form}
 use Rattle.house_model.specs.declared.form.Form.TheVariants as form
@@ -14,7 +15,6 @@ use Rattle.house_model.specs.Ending.{Ended}
 use Rattle.house_model.specs.Heard.{heard, is_over}
 use Rattle.house_model.specs.Headline.{AreOfCall, ComesShort}
 use Rattle.house_model.specs.Runs.{end_of, ends_run, looked_at}
-use Rattle.house_model.specs.Text.{Text}
 use Rattle.house_model.proofs.RunEndLemmas.{shortage-ends}
 use Rattle.house_top.specs.Call.{IsDue, IsDueAnswer, IsShortOrFault, run_words, status_of}
 use Rattle.house_top.specs.declared.status.Status.{Status}

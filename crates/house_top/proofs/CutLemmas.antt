@@ -4,8 +4,9 @@ use Rattle.std.specs.Prelude.{if◌then◌else◌}
 use Rattle.std.specs.Option.{option_to_list}
 use Rattle.command_text.specs.Cutting.{Cutting, Feeding, Feeds, AreFed, fresh, last_after, used_bytes, ended_lines, ended_line, rest_of}
 use Rattle.command_text.proofs.CuttingLemmas.{feeds_give_lines, feeds_give_whole_lines}
+use Rattle.house_base.specs.Text.{Text}
 use Rattle.house_model.specs.Heard.{whole_lines}
-use Rattle.house_model.specs.Text.{Text, is_empty, lines, without_return}
+use Rattle.house_model.specs.Text.{is_empty, lines, without_return}
 use Rattle.house_top.specs.Hearing.{IsCut}
 
 fed_more : (before : Cutting) (fs : List Feeding) (f : Feeding) → AreFed before fs → Feeds (last_after before fs) f.piece f.used f.whole f.after → AreFed before (fs ++ f ∷ [])

@@ -3,10 +3,10 @@ use Rattle.std.proofs.Common.{◌≡◌, ◌≢◌, ℕ, ◌<◌, ◌||◌, [], 
 use Rattle.std.specs.Prelude.{Option, None, Some}
 use Rattle.std.proofs.lemmas.Bool.{or_right}
 use Rattle.house_core.specs.House.{Standing}
+use Rattle.house_base.specs.Text.{Text}
 use Rattle.house_model.specs.declared.goal.Goal.{Goal}
 use Rattle.house_model.specs.Heard.{is_over, whole_lines}
 use Rattle.house_model.specs.Runs.{ends_run}
-use Rattle.house_model.specs.Text.{Text}
 use Rattle.house_top.proofs.EndLemmas.{ends_alike}
 use Rattle.house_top.proofs.FrontLemmas.{over-full, whole-front}
 use Rattle.house_top.proofs.InputLemmas.{front_taken}

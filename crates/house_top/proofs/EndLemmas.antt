@@ -5,13 +5,14 @@ use Rattle.std.specs.Option.{option_map_or}
 use Rattle.std.specs.List.{list_any}
 use Rattle.std.proofs.lemmas.Bool.{cases_Bool, cond-true, or_right}
 use Rattle.house_core.proofs.EndingLemmas.{in_force_at, stop_none}
+use Rattle.house_base.specs.Text.{Text}
 use Rattle.house_model.specs.declared.goal.Goal.{Goal}
 use Rattle.house_model.specs.declared.goal.Goal.TheVariants as goal
 use Rattle.house_model.specs.declared.verb.Verb.TheVariants as verb
 use Rattle.house_model.specs.Ending.{Halt, Rule, Ended, halted, stop_after, stop_of, in_force_after, in_force, last_ended}
 use Rattle.house_model.specs.Runs.{halt, through_assign, looked_at, settles, last_of, end_of, ends_run, taken}
 use Rattle.house_model.specs.Said.{has}
-use Rattle.house_model.specs.Text.{Text, Lines}
+use Rattle.house_model.specs.Text.{Lines}
 use Rattle.house_model.specs.Verbs.{commands}
 use Rattle.house_top.specs.Hearing.{GoOn}
 

@@ -7,9 +7,10 @@ use Rattle.std.proofs.lemmas.List.Elements.{All-append, All-nil, All-cons}
 use Rattle.std.proofs.Math.Seq.{take-append-add}
 use Rattle.command_text.specs.Held.{HasNoFeed}
 use Rattle.command_text.proofs.FeedLemmas.{lines_at_feed, whole_lines_at_feed, whole_lines_of_part}
+use Rattle.house_base.specs.Text.{Text}
 use Rattle.house_model.specs.declared.limits.TheConstants.{MOST_BYTES, MOST_LINES}
 use Rattle.house_model.specs.Heard.{heard, is_over, whole_lines}
-use Rattle.house_model.specs.Text.{Text, Lines, lines, without_return}
+use Rattle.house_model.specs.Text.{Lines, lines, without_return}
 use Rattle.house_top.proofs.LineLemmas.{is_feed, lines-some}
 
 -- The lines of a text are those that end in a front of it, and more: at least one where bytes follow.

@@ -12,6 +12,7 @@ use Rattle.house_base.specs.declared.phase.Phase.{Phase}
 use Rattle.house_core.specs.House.{Standing, StandsFor, IsStep}
 use Rattle.house_core.specs.declared.step.Step.TheVariants as step
 use Rattle.house_core.proofs.EndingLemmas.{in_force_all}
+use Rattle.house_base.specs.Text.{Text}
 use Rattle.house_model.specs.declared.goal.Goal.{Goal}
 use Rattle.house_model.specs.declared.limits.TheConstants.{MOST_BYTES, MOST_LINES}
 use Rattle.house_model.specs.declared.verb.Verb.TheVariants as verb
@@ -20,7 +21,7 @@ use Rattle.house_model.specs.Heard.{is_over, whole_lines}
 use Rattle.house_model.specs.Reviews.{is_before_assignment}
 use Rattle.house_model.specs.Runs.{halt, settles, looked_at}
 use Rattle.house_model.specs.Said.{has, phase_after}
-use Rattle.house_model.specs.Text.{Text, Lines, lines}
+use Rattle.house_model.specs.Text.{Lines, lines}
 use Rattle.house_model.proofs.LateLineLemmas.{before-assign}
 use Rattle.house_top.specs.declared.hearing.Hearing.{Hearing}
 use Rattle.house_top.specs.declared.hearing.Progress.{Progress}

@@ -6,10 +6,11 @@ use Rattle.std.proofs.lemmas.List.{take-append-drop}
 use Rattle.std.proofs.Math.Seq.{take-append_seam}
 use Rattle.house_core.specs.House.{Standing}
 use Rattle.house_io.specs.Source.{Takes}
+use Rattle.house_base.specs.Text.{Text}
 use Rattle.house_model.specs.declared.goal.Goal.{Goal}
 use Rattle.house_model.specs.Due.{Due, outcome}
 use Rattle.house_model.specs.Heard.{whole_lines}
-use Rattle.house_model.specs.Text.{Text, Lines}
+use Rattle.house_model.specs.Text.{Lines}
 use Rattle.house_top.specs.declared.hearing.Hearing.{Hearing}
 use Rattle.house_top.specs.declared.input.Heard.TheVariants as heard
 use Rattle.house_top.proofs.EndLemmas.{goes_on}

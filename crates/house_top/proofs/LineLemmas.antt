@@ -3,7 +3,8 @@ use Rattle.std.proofs.Common.{◌≡◌, ℕ, suc, ◌<◌, ◌≤◌, Bool, tru
 use Rattle.std.specs.List.{slice_split, onto_first}
 use Rattle.std.proofs.lemmas.List.{length-map}
 use Rattle.std.proofs.lemmas.List.Splits.{slice_split-cons_yes, slice_split-cons_no, length-slice_split}
-use Rattle.house_model.specs.Text.{Text, lines, without_return, without_last_empty}
+use Rattle.house_base.specs.Text.{Text}
+use Rattle.house_model.specs.Text.{lines, without_return, without_last_empty}
 
 -- whether a byte ends a line
 abbrev pub is_feed : ℕ → Bool

@@ -5,17 +5,17 @@ use Rattle.std.proofs.lemmas.List.Elements.{All-head, All-tail}
 use Rattle.std.proofs.Math.Nat.{mod-lt}
 use Rattle.house_base.specs.declared.limits.TheConstants.{MOST_OWN}
 use Rattle.house_base.specs.declared.plan.Owner.{Owner}
-use Rattle.house_base.specs.Setting.{Setting, IsSetting, StandInTurn, size}
+use Rattle.house_base.specs.Setting.{Setting, IsSetting, StandInTurn, size, name_at}
 use Rattle.house_base.proofs.Settings.{StandInTurn-le}
 use Rattle.house_core.specs.House.{Standing, StandsFor}
+use Rattle.peer_selection.specs.Counting.{numbers_below}
+use Rattle.peer_selection.specs.Profile.{Pairs}
 use Rattle.house_model.specs.declared.goal.Goal.{Goal}
 use Rattle.house_model.specs.declared.goal.Goal.TheVariants as goal
 use Rattle.house_model.specs.declared.verb.Verb.TheVariants as verb
-use Rattle.house_model.specs.Counting.{numbers_below}
 use Rattle.house_model.specs.Due.{done_text}
 use Rattle.house_model.specs.Ending.{in_force}
-use Rattle.house_model.specs.Profile.{Pairs}
-use Rattle.house_model.specs.Report.{line_of, name_at}
+use Rattle.house_model.specs.Report.{line_of}
 use Rattle.house_model.specs.Runs.{halt, settles}
 use Rattle.house_model.specs.Said.{has, run_pairs, setting}
 use Rattle.house_model.specs.Text.{Lines}

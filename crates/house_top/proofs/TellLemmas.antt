@@ -1,11 +1,12 @@
 -- What lines tell of an input.
 use Rattle.std.proofs.Common.{◌≡◌, ◌<◌, Bool, true, false, not, cond, ◌&&◌, [], ◌++◌, length, refl, sym, ap, ◌∙◌}
 use Rattle.house_core.specs.House.{Standing}
+use Rattle.house_base.specs.Text.{Text}
 use Rattle.house_model.specs.declared.goal.Goal.{Goal}
 use Rattle.house_model.specs.Due.{Due, due_of_end, outcome}
 use Rattle.house_model.specs.Heard.{heard, is_over, whole_lines}
 use Rattle.house_model.specs.Runs.{end_of, ends_run, taken}
-use Rattle.house_model.specs.Text.{Text, lines}
+use Rattle.house_model.specs.Text.{lines}
 use Rattle.house_top.proofs.EndLemmas.{ends_alike, goes_on}
 use Rattle.house_top.proofs.FrontLemmas.{heard-front, heard-full, heard_within, over-full}
 use Rattle.house_top.specs.Hearing.{HasEnded, IsFull, TellsEnd}

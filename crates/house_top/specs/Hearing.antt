@@ -2,6 +2,7 @@
 use Rattle.std.specs.Prelude.{◌≡◌, ◌≢◌, ◌≤◌, ◌⊎◌, ◌&&◌, true, false, List, [], ◌++◌, Option, None, IfSome, IsSomeAnd, length}
 use Rattle.command_text.specs.Cutting.{Cutting, Feeding, AreFed, fresh, last_after, used_bytes}
 use Rattle.house_core.specs.House.{Standing, StandsFor}
+use Rattle.house_base.specs.Text.{Text}
 use Rattle.house_model.specs.declared.goal.Goal.{Goal}
 use Rattle.house_model.specs.declared.limits.TheConstants.{MOST_BYTES, MOST_LINES}
 use Rattle.house_model.specs.declared.verb.Verb.TheVariants as verb
@@ -10,7 +11,7 @@ use Rattle.house_model.specs.Ending.{in_force, stop_of}
 use Rattle.house_model.specs.Heard.{is_over, whole_lines}
 use Rattle.house_model.specs.Runs.{end_of, ends_run, halt, looked_at, settles, taken}
 use Rattle.house_model.specs.Said.{has}
-use Rattle.house_model.specs.Text.{Text, Lines}
+use Rattle.house_model.specs.Text.{Lines}
 use Rattle.house_top.specs.declared.hearing.Hearing.{Hearing}
 use Rattle.house_top.specs.declared.hearing.Progress.{Progress}
 use Rattle.house_top.specs.declared.hearing.Progress.TheVariants as progress

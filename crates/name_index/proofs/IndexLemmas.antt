@@ -10,10 +10,9 @@ use Rattle.std.proofs.lemmas.List.Quantifiers.{all_pairs_push}
 use Rattle.std.proofs.lemmas.Option.{same_Some, none-some, slice_get_within, get_or_from_slice_get}
 use Rattle.std.proofs.lemmas.List.Sums.{prefix_len-le-length, position_or_len_is, passes_at_first}
 use Rattle.house_base.specs.declared.limits.TheConstants.{MOST_APPLICANTS}
-use Rattle.house_model.specs.Text.{Text}
-use Rattle.house_model.specs.Register.{among}
-use Rattle.house_model.proofs.InOrderLemmas.{In, In-get_or, In-Contains}
-use Rattle.house_model.proofs.GroupLemmas.{same_text, bytes_eq-same, bytes_eq-other, cases_text, among-In, In-among, not_among, not_In}
+use Rattle.house_base.specs.Text.{Text, among}
+use Rattle.house_base.proofs.InOrderLemmas.{In, In-get_or, In-Contains}
+use Rattle.house_base.proofs.AmongLemmas.{same_text, bytes_eq-same, bytes_eq-other, cases_text, among-In, In-among, not_among, not_In}
 use Rattle.name_index.specs.Hints.{HaveHints, digest_of, hint_for}
 use Rattle.name_index.specs.Index.{IsIndex, number_in}
 

@@ -1,6 +1,6 @@
 use Rattle.std.specs.Prelude.{◌≡◌, ℕ, suc, ◌%◌, ◌<◌, Option, Some, List, [], length, slice_get, slice_index_or}
 use Rattle.std.specs.Hash.FoldHasher.{initial, write, finish}
-use Rattle.house_model.specs.Text.{Text}
+use Rattle.house_base.specs.Text.{Text}
 use Rattle.name_index.specs.declared.hints.TheConstants.{HINTS}
 
 -- the digest of a text: what the hasher of std gives for its bytes, as the number of a hint

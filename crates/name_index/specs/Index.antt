@@ -5,7 +5,7 @@ use Rattle.std.specs.List.{position_or_len}
 use Rattle.std.specs.Ordering.{nat_cmp}
 use Rattle.std.specs.Str.{bytes_eq}
 use Rattle.house_base.specs.declared.limits.TheConstants.{MOST_APPLICANTS}
-use Rattle.house_model.specs.Text.{Text}
+use Rattle.house_base.specs.Text.{Text}
 
 -- the number of a text among others: its index; how many they are where it is not among them
 unfoldable pub number_in : List Text → Text → ℕ

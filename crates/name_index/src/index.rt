@@ -2,7 +2,7 @@
 
 ghost use Rattle.std.specs.Prelude.{◌≡◌, ◌≢◌, ◌-◌, ◌<◌, ◌≤◌, Some, false, [], ◌∷◌, ◌++◌, is_some, IsTrue, OnOk, OnErr, length, position, slice_get, take};
 ghost use Rattle.std.specs.Str.{bytes_eq};
-ghost use Rattle.house_model.specs.Register.{among};
+ghost use Rattle.house_base.specs.Text.{among};
 
 use crate::hints::Hints;
 use house_base::Name;

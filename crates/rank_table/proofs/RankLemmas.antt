@@ -4,9 +4,9 @@ use Rattle.std.proofs.lemmas.Bool.Decides.{nat_tests}
 use Rattle.house_base.specs.declared.plan.Person.{Person}
 use Rattle.house_base.specs.Setting.{Setting, size, cluster_at}
 use Rattle.house_base.proofs.Settings.{cluster_at-read}
-use Rattle.house_model.specs.Counting.{count_below}
-use Rattle.house_model.specs.Profile.{Profile, score, rank}
-use Rattle.house_model.proofs.CountingLemmas.{one_if, count_below-add_one, count_below-same}
+use Rattle.peer_selection.specs.Counting.{count_below}
+use Rattle.peer_selection.specs.Profile.{Profile, score, rank}
+use Rattle.peer_selection.proofs.CountingLemmas.{one_if, count_below-add_one, count_below-same}
 use Rattle.seat_quota.specs.Totals.{Shares, IsTotals}
 use Rattle.rank_table.specs.Rank.{goes_before}
 

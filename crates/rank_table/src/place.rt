@@ -2,8 +2,7 @@
 
 ghost use Rattle.std.specs.Prelude.{◌≡◌, ◌<◌, ◌≤◌, slice_index};
 ghost use Rattle.house_base.specs.Setting.{size};
-ghost use Rattle.house_model.specs.Profile.{Pairs, Points, rank};
-ghost use Rattle.review_desk.specs.Desk.{profile_on};
+ghost use Rattle.peer_selection.specs.Profile.{Pairs, Points, rank, profile_on};
 ghost use Rattle.seat_quota.specs.Totals.{HoldsTotals, IsTotals};
 ghost use Rattle.rank_table.specs.Rank.{goes_before};
 

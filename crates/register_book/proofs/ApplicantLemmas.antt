@@ -4,8 +4,8 @@ use Rattle.std.proofs.lemmas.List.{length_push, length-map, map_push, get_or_app
 use Rattle.std.proofs.lemmas.List.Elements.{All-weaker}
 use Rattle.house_base.specs.Name.{is_name}
 use Rattle.house_base.specs.declared.limits.TheConstants.{MOST_APPLICANTS, MOST_OWN}
-use Rattle.house_model.specs.Text.{Text}
-use Rattle.house_model.specs.Register.{Register, IsRegister, names, own_count, among}
+use Rattle.house_base.specs.Text.{Text, among}
+use Rattle.house_model.specs.Register.{Register, IsRegister, names, own_count}
 use Rattle.house_model.proofs.RegisterLemmas.{with_applicant, IsRegister-with_applicant}
 use Rattle.register_book.specs.Held.{IsBook, register_of, cluster_in, named, pairs_where, text_at}
 use Rattle.register_book.specs.PairList.{PairsHeld}

@@ -1,7 +1,7 @@
 use Rattle.std.proofs.Common.{◌≡◌, ℕ, ◌<◌, true, List, length, sym, ap, ◌∙◌, arith}
 use Rattle.std.proofs.lemmas.List.{length-map}
+use Rattle.house_base.specs.Text.{Text}
 use Rattle.house_model.specs.Register.{Register, names, persons, pair_among}
-use Rattle.house_model.specs.Text.{Text}
 use Rattle.register_book.specs.Held.{IsBook, register_of, text_at}
 use Rattle.register_book.specs.PairList.{PairsHeld}
 use Rattle.register_book.specs.Places.{PlacesHeld}

@@ -4,9 +4,9 @@ use Rattle.std.specs.Option.{option_map_or}
 use Rattle.std.proofs.lemmas.Bool.{cases_eq, false≢true, or_parts, or_cases, and_parts, eqb-true}
 use Rattle.std.proofs.lemmas.List.{length-set, get_or-set_same, get_or-set_other}
 use Rattle.std.proofs.lemmas.List.Elements.{All-nil, All-push}
-use Rattle.house_model.specs.Text.{Text}
-use Rattle.house_model.specs.Register.{Register, IsRegister, persons, own_count, among}
-use Rattle.house_model.proofs.GroupLemmas.{bytes_eq-same, bytes_eq-other, bytes_eq-swap}
+use Rattle.house_base.specs.Text.{Text, among}
+use Rattle.house_base.proofs.AmongLemmas.{bytes_eq-same, bytes_eq-other, bytes_eq-swap}
+use Rattle.house_model.specs.Register.{Register, IsRegister, persons, own_count}
 use Rattle.house_model.proofs.RegisterLemmas.{empty_register, with_place, with_pair, IsRegister-empty, IsRegister-with_place, IsRegister-with_pair}
 use Rattle.register_book.specs.Held.{IsBook, register_of, cluster_in, named, pairs_where, text_at}
 use Rattle.register_book.specs.PairList.{PairsHeld}

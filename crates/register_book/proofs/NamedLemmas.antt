@@ -6,10 +6,11 @@ use Rattle.std.proofs.lemmas.List.{map_push, length-map, get_or_append_left}
 use Rattle.std.proofs.lemmas.Option.{slice_get-map}
 use Rattle.std.proofs.lemmas.List.Concat.{flat_map-append}
 use Rattle.std.proofs.lemmas.List.Elements.{filter-append}
-use Rattle.house_model.specs.Text.{Text}
-use Rattle.house_model.specs.Register.{among, pair_among}
-use Rattle.house_model.proofs.InOrderLemmas.{In, In-get_or, In-map, map-In, In-filter, filter-In, In-flat_map, flat_map-In, All-In}
-use Rattle.house_model.proofs.GroupLemmas.{same_text, bytes_eq-same, In-among, filter-none}
+use Rattle.house_base.specs.Text.{Text, among}
+use Rattle.house_base.proofs.InOrderLemmas.{In, In-get_or, In-map, map-In, In-filter, filter-In, In-flat_map, flat_map-In, All-In}
+use Rattle.house_base.proofs.AmongLemmas.{same_text, bytes_eq-same, In-among}
+use Rattle.house_model.specs.Register.{pair_among}
+use Rattle.house_model.proofs.GroupLemmas.{filter-none}
 use Rattle.register_book.specs.Held.{named, pairs_where, text_at}
 use Rattle.register_book.specs.PairList.{numbers_among}
 use Rattle.name_index.specs.Index.{number_in}

@@ -1,9 +1,9 @@
 use Rattle.std.proofs.Common.{◌≡◌, ℕ, ◌<◌, true, false, ◌&&◌, ◌||◌, not, eqb, List, length, Some, position, bytes_eq, refl, sym, ap, ◌∙◌, inl, inr, arith}
 use Rattle.std.proofs.lemmas.Bool.{false≢true, and_parts, and_from, and_left, and_right, or_cases, or_left, not_from_false, not-true}
 use Rattle.std.proofs.lemmas.List.{length-map}
-use Rattle.house_model.specs.Text.{Text}
-use Rattle.house_model.specs.Register.{Register, names, persons, among, pair_among}
-use Rattle.house_model.proofs.GroupLemmas.{same_text, among-In}
+use Rattle.house_base.specs.Text.{Text, among}
+use Rattle.house_base.proofs.AmongLemmas.{same_text, among-In}
+use Rattle.house_model.specs.Register.{Register, names, persons, pair_among}
 use Rattle.register_book.specs.Held.{IsBook, register_of, named, pairs_where, text_at}
 use Rattle.register_book.specs.PairList.{PairsHeld, numbers_among}
 use Rattle.register_book.specs.Places.{PlacesHeld}

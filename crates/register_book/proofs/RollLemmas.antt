@@ -3,10 +3,11 @@ use Rattle.std.proofs.lemmas.Bool.{cases_eq}
 use Rattle.std.proofs.lemmas.List.{length_push, map_push, length-map, length-set, get_or-map, get_or-set_same, get_or-set_other, get_or_read, ext_get_or}
 use Rattle.std.proofs.lemmas.List.Sums.{sum_by_push, sum_by-cons}
 use Rattle.house_base.specs.declared.limits.TheConstants.{MOST_APPLICANTS}
-use Rattle.house_model.specs.Text.{Text}
-use Rattle.house_model.specs.Register.{among, firsts}
-use Rattle.house_model.proofs.InOrderLemmas.{In, In-get_or, In-map, AllPairs-from_InOrder}
-use Rattle.house_model.proofs.GroupLemmas.{bytes_eq-same, bytes_eq-other, among-In, In-among, not_In, In-firsts, firsts-In, Apart-firsts, firsts-push_new, firsts-push_known, length-firsts}
+use Rattle.house_base.specs.Text.{Text, among}
+use Rattle.house_base.proofs.InOrderLemmas.{In, In-get_or, In-map, AllPairs-from_InOrder}
+use Rattle.house_base.proofs.AmongLemmas.{bytes_eq-same, bytes_eq-other, among-In, In-among, not_In}
+use Rattle.house_model.specs.Register.{firsts}
+use Rattle.house_model.proofs.GroupLemmas.{In-firsts, firsts-In, Apart-firsts, firsts-push_new, firsts-push_known, length-firsts}
 use Rattle.name_index.specs.Index.{number_in}
 use Rattle.register_book.specs.Roll.{IsRoll, persons_in, own_in}
 use Rattle.name_index.proofs.IndexLemmas.{number_of_member, at-number_in, number_in-unknown, number_in-at, number_in-append, number_in-push, number_from_position}

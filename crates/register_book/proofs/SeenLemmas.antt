@@ -6,10 +6,10 @@ use Rattle.std.proofs.lemmas.List.{length-map, get_or-map}
 use Rattle.std.proofs.lemmas.List.Elements.{All-weaker, All-head, All-tail, All-get_or}
 use Rattle.std.proofs.lemmas.Option.{slice_get-get_or, get_or_from_slice_get, slice_get_within}
 use Rattle.house_base.specs.declared.limits.TheConstants.{MOST_APPLICANTS}
-use Rattle.house_model.specs.Text.{Text}
-use Rattle.house_model.specs.Register.{Register, IsRegister, names, persons, placed_names, own_count, cluster_of, firsts, among, person_of, person_number}
-use Rattle.house_model.proofs.InOrderLemmas.{In, In-get_or, All-In}
-use Rattle.house_model.proofs.GroupLemmas.{cases_text, bytes_eq-same, bytes_eq-other, not_among}
+use Rattle.house_base.specs.Text.{Text, among}
+use Rattle.house_base.proofs.InOrderLemmas.{In, In-get_or, All-In}
+use Rattle.house_base.proofs.AmongLemmas.{cases_text, bytes_eq-same, bytes_eq-other, not_among}
+use Rattle.house_model.specs.Register.{Register, IsRegister, names, persons, placed_names, own_count, cluster_of, firsts, person_of, person_number}
 use Rattle.house_model.proofs.RegisterLemmas.{fewer_placed}
 use Rattle.register_book.specs.Held.{IsBook, register_of, cluster_in, named, pairs_where, text_at}
 use Rattle.register_book.specs.PairList.{PairsHeld}

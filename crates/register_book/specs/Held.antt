@@ -1,8 +1,8 @@
 use Rattle.std.specs.Prelude.{◌≡◌, ◌≤◌, ◌<◌, ℕ, ◌*◌, Bool, true, All, List, [], length, map, filter, find, flat_map, slice_index, slice_index_or}
 use Rattle.std.specs.Option.{option_map_or}
 use Rattle.std.specs.Str.{bytes_eq}
+use Rattle.house_base.specs.Text.{Text}
 use Rattle.house_model.specs.Register.{Register, IsRegister}
-use Rattle.house_model.specs.Text.{Text}
 use Rattle.register_book.specs.PairList.{PairsHeld}
 use Rattle.register_book.specs.Places.{PlacesHeld}
 use Rattle.name_index.specs.Index.{number_in}

@@ -1,8 +1,8 @@
 use Rattle.std.specs.Prelude.{◌≡◌, ◌≤◌, ℕ, List, length, map, count_by}
 use Rattle.std.specs.Str.{bytes_eq}
 use Rattle.house_base.specs.declared.limits.TheConstants.{MOST_APPLICANTS}
+use Rattle.house_base.specs.Text.{Text}
 use Rattle.house_model.specs.Register.{firsts}
-use Rattle.house_model.specs.Text.{Text}
 use Rattle.name_index.specs.Index.{number_in}
 
 -- the names of these applicants, in register order

@@ -2,8 +2,8 @@
 
 ghost use Rattle.std.specs.Prelude.{◌≡◌, ◌≢◌, ℕ, ◌+◌, ◌<◌, ◌≤◌, ◌↔◌, Some, None, true, false, [], ◌∷◌, ◌++◌, not, ◌&&◌, ◌||◌, nat_le, is_some, IsTrue, IfSome, IfNone, OnOk, OnErr, length, position, slice_get};
 ghost use Rattle.std.specs.Str.{bytes_eq};
-ghost use Rattle.house_model.specs.Register.{IsRegister, names, persons, placed_names, own_count, cluster_of, person_of, person_number, among, pair_among};
-ghost use Rattle.house_model.specs.Text.{Text};
+ghost use Rattle.house_base.specs.Text.{Text, among};
+ghost use Rattle.house_model.specs.Register.{IsRegister, names, persons, placed_names, own_count, cluster_of, person_of, person_number, pair_among};
 ghost use Rattle.register_book.specs.Held.{text_at};
 
 use crate::fault::BookFault;

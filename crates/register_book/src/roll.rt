@@ -2,7 +2,7 @@
 
 ghost use Rattle.std.specs.Prelude.{◌≡◌, ◌+◌, ◌<◌, ◌≤◌, Some, None, false, [], ◌∷◌, ◌++◌, is_some, OnOk, OnErr, length, map, position, slice_get, slice_index_or};
 ghost use Rattle.std.specs.Str.{bytes_eq};
-ghost use Rattle.house_model.specs.Register.{among};
+ghost use Rattle.house_base.specs.Text.{among};
 ghost use Rattle.name_index.specs.Index.{number_in};
 ghost use Rattle.register_book.specs.Roll.{names_in, persons_in, own_in};
 

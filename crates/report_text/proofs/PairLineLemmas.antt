@@ -7,12 +7,12 @@ use Rattle.std.proofs.lemmas.Grind.{flat_map-append}
 use Rattle.std.specs.Option.{option_map_or}
 use Rattle.house_base.specs.declared.plan.Owner.{Owner}
 use Rattle.house_base.specs.declared.plan.Person.{Person}
-use Rattle.house_base.specs.Setting.{Setting, size}
-use Rattle.house_model.specs.Counting.{numbers_below}
-use Rattle.house_model.specs.Profile.{Pairs}
-use Rattle.house_model.specs.Report.{line_of, name_at}
+use Rattle.house_base.specs.Setting.{Setting, size, name_at}
+use Rattle.peer_selection.specs.Counting.{numbers_below}
+use Rattle.peer_selection.specs.Profile.{Pairs}
+use Rattle.peer_selection.proofs.CountingLemmas.{numbers_below-add_one}
+use Rattle.house_model.specs.Report.{line_of}
 use Rattle.house_model.specs.Texts.{pair_lines}
-use Rattle.house_model.proofs.CountingLemmas.{numbers_below-add_one}
 
 -- the line of a person's pair with the applicant at a place
 pub pair_line : Setting → Owner → ℕ → List ℕ

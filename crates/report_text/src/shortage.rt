@@ -3,9 +3,9 @@
 ghost use Rattle.std.specs.Prelude.{◌≡◌, ◌<◌, ◌≤◌, ◌*◌, ◌+◌, ◌-◌, ◌++◌, ◌∷◌, ◌&&◌, length, OnOk, OnErr, IfOk, if◌then◌else◌};
 ghost use Rattle.house_base.specs.Setting.{size, may, need};
 ghost use Rattle.house_base.specs.declared.limits.TheConstants.{MOST_APPLICANTS, MOST_OWN, MOST_REVIEWS};
-ghost use Rattle.house_model.specs.Counting.{count_below};
+ghost use Rattle.peer_selection.specs.Counting.{count_below};
+ghost use Rattle.peer_selection.specs.Shortage.{IsShort, allowed, assignment_demand, needed_in, room_outside};
 ghost use Rattle.house_model.specs.Report.{line_of};
-ghost use Rattle.house_model.specs.Shortage.{IsShort, allowed, assignment_demand, needed_in, room_outside};
 ghost use Rattle.house_model.specs.Texts.{proposals_in, reviewers_in, short_text, short_words};
 ghost use Rattle.cut_gap.specs.Cut.{marked};
 
@@ -118,7 +118,7 @@ fn proposals(alloc: Global, plan: &Plan, cut: &Cut) -> Result<Vec<Name>, AllocEr
 }
 
 /// How many pairs the persons of a cut need.
-#[tactic(auto, unfolding(house_model::specs::Shortage::needed_in))]
+#[tactic(auto, unfolding(peer_selection::specs::Shortage::needed_in))]
 fn needed_in(plan: &Plan, cut: &Cut) -> u64
     requires { length cut.now.reviewers ≡ size plan.now }
     ensures { result ≡ needed_in (assignment_demand plan.now) (marked cut.now.reviewers) }
@@ -133,7 +133,7 @@ fn needed_in(plan: &Plan, cut: &Cut) -> u64
 }
 
 /// For how many pairs the applicants outside a cut have room.
-#[tactic(auto, unfolding(house_model::specs::Shortage::room_outside))]
+#[tactic(auto, unfolding(peer_selection::specs::Shortage::room_outside))]
 fn room_outside(plan: &Plan, cut: &Cut) -> u64
     requires { length cut.now.proposals ≡ size plan.now }
     ensures { result ≡ room_outside (assignment_demand plan.now) (marked cut.now.proposals) }
@@ -149,7 +149,7 @@ fn room_outside(plan: &Plan, cut: &Cut) -> u64
 }
 
 /// How many pairs of a person and an applicant of a cut may be.
-#[tactic(auto, unfolding(house_model::specs::Shortage::allowed))]
+#[tactic(auto, unfolding(peer_selection::specs::Shortage::allowed))]
 fn allowed(plan: &Plan, cut: &Cut) -> u64
     requires reviewers { length cut.now.reviewers ≡ size plan.now }
     requires proposals { length cut.now.proposals ≡ size plan.now }

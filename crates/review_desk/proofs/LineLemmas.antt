@@ -12,9 +12,9 @@ use Rattle.house_base.specs.declared.review.ReviewLine.{ReviewLine}
 use Rattle.house_base.specs.Grid.{cell}
 use Rattle.house_base.specs.Setting.{Setting, IsSetting, size, names_of}
 use Rattle.house_base.proofs.Settings.{Contains-find}
-use Rattle.house_model.specs.Profile.{Pairs, Points}
+use Rattle.house_base.specs.Text.{Text}
+use Rattle.peer_selection.specs.Profile.{Pairs, Points}
 use Rattle.house_model.specs.Reviews.{reviewer_place, proposal_place}
-use Rattle.house_model.specs.Text.{Text}
 use Rattle.review_desk.specs.Desk.{Marks, IsSetUp, person_under}
 use Rattle.review_desk.specs.Line.{is_person, is_applicant, reviewer_of, proposal_of, points_in, kind_among, points_after}
 use Rattle.review_desk.proofs.PlaceLemmas.{among-find, among-position, first-below, position_from-below, position-names}

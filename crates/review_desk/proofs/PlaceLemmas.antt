@@ -11,9 +11,8 @@ use Rattle.house_base.specs.declared.plan.Owner.{Owner}
 use Rattle.house_base.specs.declared.plan.Person.{Person}
 use Rattle.house_base.specs.Setting.{StandInTurn}
 use Rattle.house_base.proofs.Settings.{StandInTurn-le}
-use Rattle.house_model.specs.Register.{among}
-use Rattle.house_model.specs.Text.{Text}
-use Rattle.house_model.proofs.GroupLemmas.{among-cons, bytes_eq-swap}
+use Rattle.house_base.specs.Text.{Text, among}
+use Rattle.house_base.proofs.AmongLemmas.{among-cons, bytes_eq-swap}
 use Rattle.name_index.specs.Index.{number_in}
 use Rattle.name_index.proofs.IndexLemmas.{among-before, number_from_position, no_number}
 

@@ -4,8 +4,8 @@ use Rattle.std.specs.Str.{bytes_eq}
 use Rattle.house_base.specs.declared.limits.TheConstants.{MOST_POINTS}
 use Rattle.house_base.specs.Grid.{Square, cell}
 use Rattle.house_base.specs.Setting.{Setting, IsSetting, size, names_of}
-use Rattle.house_model.specs.Profile.{Pairs, Points, Profile, is_valid}
-use Rattle.house_model.specs.Text.{Text}
+use Rattle.house_base.specs.Text.{Text}
+use Rattle.peer_selection.specs.Profile.{Points, Profile, is_valid, profile_on}
 
 -- The pairs of an assignment, the points that were given for them, row by row, and the names of the reviewers and of
 -- the proposals, in the order of their places.
@@ -39,10 +39,6 @@ pub record IsSetUp (s : Setting) (desk : Marks) : Type 0 where
   pub most : (r p : ℕ) → r < size s → p < size s → points_at desk r p ≤ MOST_POINTS
   pub reviewers : desk.reviewers ≡ map (λ owner. owner.name) s.owners
   pub proposals : desk.proposals ≡ names_of s
-
--- the profile of a setting with these pairs and points
-abbrev pub profile_on : Setting → Pairs → Points → Profile
-profile_on s pairs points = record { setting = s; pairs = pairs; points = points }
 
 -- the profile of a setting and a desk
 abbrev pub desk_profile : Setting → Marks → Profile

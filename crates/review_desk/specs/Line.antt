@@ -8,10 +8,9 @@ use Rattle.house_base.specs.declared.limits.TheConstants.{MOST_POINTS}
 use Rattle.house_base.specs.declared.phase.Phase.{Phase}
 use Rattle.house_base.specs.declared.review.ReviewLine.{ReviewLine}
 use Rattle.house_base.specs.Setting.{Setting, names_of}
-use Rattle.house_model.specs.Profile.{Pairs, Points}
-use Rattle.house_model.specs.Register.{among}
+use Rattle.house_base.specs.Text.{Text, among}
+use Rattle.peer_selection.specs.Profile.{Pairs, Points}
 use Rattle.house_model.specs.Reviews.{is_before_assignment, is_after_close, reviewer_place, proposal_place, first_of_kinds}
-use Rattle.house_model.specs.Text.{Text}
 
 -- The kinds under which a review line is set aside, by its parts.
 

@@ -5,7 +5,7 @@ ghost use Rattle.house_base.specs.Grid.{cell};
 ghost use Rattle.house_base.specs.Setting.{Setting, size};
 ghost use Rattle.house_base.specs.declared.answer.Kind.{Kind};
 ghost use Rattle.house_base.specs.declared.answer.Took.TheVariants.{Aside};
-ghost use Rattle.house_model.specs.Profile.{is_valid};
+ghost use Rattle.peer_selection.specs.Profile.{is_valid};
 ghost use Rattle.review_desk.specs.Desk.{IsSetUp, points_at};
 ghost use Rattle.review_desk.specs.Line.{kind_among, reviewer_of, proposal_of, points_in, took_as, points_after};
 

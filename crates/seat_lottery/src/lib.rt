@@ -3,8 +3,8 @@
 #![tactic(auto)]
 
 ghost use Rattle.std.specs.Prelude.{◌≡◌, ◌+◌, ◌^◌, ◌<◌, ◌≤◌};
-ghost use Rattle.house_model.specs.Laws.{IsRounded};
-ghost use Rattle.house_model.specs.Marks.{marks};
+ghost use Rattle.peer_selection.specs.Laws.{IsRounded};
+ghost use Rattle.peer_selection.specs.Marks.{marks};
 
 pub mod seed;
 

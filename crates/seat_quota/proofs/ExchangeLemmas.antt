@@ -8,13 +8,12 @@ use Rattle.house_base.specs.declared.limits.TheConstants.{DOLLAR, MOST_APPLICANT
 use Rattle.house_base.specs.declared.plan.Person.{Person}
 use Rattle.house_base.specs.Setting.{Setting, IsSetting, size, cluster_at}
 use Rattle.house_base.proofs.Settings.{cluster_at-read}
-use Rattle.house_model.specs.Counting.{sum_below}
-use Rattle.house_model.specs.Profile.{Pairs, Points, row, row_points, cents, score}
-use Rattle.house_model.specs.Split.{cents_at}
-use Rattle.house_model.proofs.CountingLemmas.{sum_below-suc, sum_below-same, sum_below-term}
-use Rattle.house_model.proofs.RowLemmas.{row-below}
-use Rattle.review_desk.specs.Desk.{profile_on}
-use Rattle.house_model.proofs.SplitLemmas.{cents-sum}
+use Rattle.peer_selection.specs.Counting.{sum_below}
+use Rattle.peer_selection.specs.Profile.{Pairs, Points, row, row_points, cents, score, profile_on}
+use Rattle.peer_selection.specs.Split.{cents_at}
+use Rattle.peer_selection.proofs.CountingLemmas.{sum_below-suc, sum_below-same, sum_below-term}
+use Rattle.peer_selection.proofs.RowLemmas.{row-below}
+use Rattle.peer_selection.proofs.SplitLemmas.{cents-sum}
 use Rattle.seat_quota.specs.Totals.{Shares, IsSummed, cluster_sum, found_in}
 use Rattle.seat_quota.proofs.GivenLemmas.{found, found_here, found_elsewhere}
 use Rattle.seat_quota.proofs.TotalLemmas.{person-in_range, cluster_sum-most}

@@ -5,8 +5,8 @@ use Rattle.std.proofs.lemmas.Bool.{cond-true, cond-false, cases_Bool, cases_eq, 
 use Rattle.std.proofs.lemmas.List.{get_or-set_same, get_or-set_other, take_more, map-append, append-nil, take_all, take-append-le, take_more_set}
 use Rattle.std.proofs.lemmas.List.Elements.{filter-append, All-push}
 use Rattle.house_base.specs.declared.limits.TheConstants.{MOST_POINTS}
-use Rattle.house_model.specs.Counting.{numbers_below}
-use Rattle.house_model.proofs.CountingLemmas.{numbers_below-add_one}
+use Rattle.peer_selection.specs.Counting.{numbers_below}
+use Rattle.peer_selection.proofs.CountingLemmas.{numbers_below-add_one}
 use Rattle.std.proofs.lemmas.List.{length-take-le, get_or-take, length-set}
 use Rattle.std.proofs.lemmas.Iterator.Adapters.{position_from-zero}
 use Rattle.std.proofs.Math.Nat.{mod-eq_of_lt, add-mod_left}

@@ -11,14 +11,14 @@ use Rattle.house_base.specs.declared.limits.TheConstants.{MOST_APPLICANTS, MOST_
 use Rattle.house_base.specs.declared.plan.Owner.{Owner}
 use Rattle.house_base.specs.declared.plan.Person.{Person}
 use Rattle.house_base.specs.Setting.{Setting, IsSetting, IsOwned, StandInTurn, size, names_of, numbers_of, cluster_at, number_at}
-use Rattle.house_model.specs.Counting.{all_below}
 use Rattle.house_base.specs.Grid.{Square, cell}
-use Rattle.house_model.specs.Counting.{count_below}
-use Rattle.house_model.specs.Profile.{is_valid}
 use Rattle.house_base.specs.Setting.{owner_from, need, may}
+use Rattle.peer_selection.specs.Counting.{all_below}
+use Rattle.peer_selection.specs.Counting.{count_below}
+use Rattle.peer_selection.specs.Profile.{is_valid}
 use Rattle.seat_quota.specs.Six.{six_applicants, six_owners, six_pairs, six_people}
-use Rattle.house_model.proofs.SameLemmas.{is_valid-same}
-use Rattle.house_model.proofs.CountingLemmas.{all_below-each}
+use Rattle.peer_selection.proofs.SameLemmas.{is_valid-same}
+use Rattle.peer_selection.proofs.CountingLemmas.{all_below-each}
 
 -- A setting by tests, so that a worked one computes.
 

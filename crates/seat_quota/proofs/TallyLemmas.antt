@@ -6,12 +6,12 @@ use Rattle.std.proofs.Math.Seq.{get_or-append_seam}
 use Rattle.house_base.specs.declared.limits.TheConstants.{DOLLAR, MOST_POINTS}
 use Rattle.house_base.specs.Grid.{Square, cell}
 use Rattle.house_base.specs.Setting.{Setting, size}
-use Rattle.house_model.specs.Counting.{numbers_below}
-use Rattle.house_model.specs.Profile.{row, cents, score, is_valid}
-use Rattle.house_model.specs.Split.{cents_at}
-use Rattle.house_model.proofs.CountingLemmas.{numbers_below-add_one, length-numbers_below, get_or-numbers_below, sum_below-term}
-use Rattle.house_model.proofs.RowLemmas.{row-below}
-use Rattle.review_desk.specs.Desk.{Marks, IsSetUp, points_at, desk_profile, profile_on}
+use Rattle.peer_selection.specs.Counting.{numbers_below}
+use Rattle.peer_selection.specs.Profile.{row, cents, score, is_valid, profile_on}
+use Rattle.peer_selection.specs.Split.{cents_at}
+use Rattle.peer_selection.proofs.CountingLemmas.{numbers_below-add_one, length-numbers_below, get_or-numbers_below, sum_below-term}
+use Rattle.peer_selection.proofs.RowLemmas.{row-below}
+use Rattle.review_desk.specs.Desk.{Marks, IsSetUp, points_at, desk_profile}
 use Rattle.seat_quota.specs.Tally.{HoldsRows, IsGiven, IsTally, row_at}
 use Rattle.seat_quota.specs.Totals.{Shares, IsSummed, IsRow, IsExchange, row_among, found_in}
 use Rattle.seat_quota.proofs.ExchangeLemmas.{item, map-same, found_whole, score-change, cents_at-most}

@@ -7,11 +7,11 @@ use Rattle.house_base.specs.declared.limits.TheConstants.{DOLLAR}
 use Rattle.house_base.specs.declared.plan.Person.{Person}
 use Rattle.house_base.specs.Setting.{Setting, IsSetting, size, cluster_at}
 use Rattle.house_base.proofs.Settings.{cluster_at-read}
-use Rattle.house_model.specs.Counting.{count_below, sum_below}
-use Rattle.house_model.specs.Split.{cents_at}
-use Rattle.house_model.specs.Profile.{Profile, row, row_points, cents, score}
-use Rattle.house_model.proofs.CountingLemmas.{sum_below-add_one, sum_below-term, sum_below-le, sum_below-same}
 use Rattle.house_base.specs.Grid.{cell}
+use Rattle.peer_selection.specs.Counting.{count_below, sum_below}
+use Rattle.peer_selection.specs.Split.{cents_at}
+use Rattle.peer_selection.specs.Profile.{Profile, row, row_points, cents, score}
+use Rattle.peer_selection.proofs.CountingLemmas.{sum_below-add_one, sum_below-term, sum_below-le, sum_below-same}
 use Rattle.review_desk.specs.Desk.{Marks, desk_profile}
 use Rattle.seat_quota.specs.Totals.{cluster_sum, row_among, IsRow}
 use Rattle.seat_quota.proofs.GivenLemmas.{cents_found}
@@ -20,12 +20,12 @@ use Rattle.house_base.specs.declared.plan.Owner.{Owner}
 use Rattle.house_base.specs.declared.limits.TheConstants.{MOST_OWN, MOST_REVIEWS, MOST_APPLICANTS}
 use Rattle.house_base.specs.Setting.{need, owner_from}
 use Rattle.house_base.proofs.Settings.{need-le, length-StandInTurn}
-use Rattle.house_model.specs.Profile.{denominator, cluster_cents, is_valid}
-use Rattle.house_model.proofs.ClusterLemmas.{cluster_at-in_range, cluster_cents-all}
-use Rattle.house_model.proofs.RowLemmas.{length-row, length-row_points, row-below, row-distinct, cents-dollar, cents-nothing}
+use Rattle.peer_selection.specs.Profile.{denominator, cluster_cents, is_valid}
+use Rattle.peer_selection.proofs.ClusterLemmas.{cluster_at-in_range, cluster_cents-all}
+use Rattle.peer_selection.proofs.RowLemmas.{length-row, length-row_points, row-below, row-distinct, cents-dollar, cents-nothing}
 use Rattle.std.proofs.lemmas.Bool.Decides.{Decides-eqb}
 use Rattle.std.proofs.lemmas.Map.Made.{AllPairs-from_IsDistinct}
-use Rattle.house_model.proofs.ValidLemmas.{is_valid-each}
+use Rattle.peer_selection.proofs.ValidLemmas.{is_valid-each}
 
 -- Persons and bounds.
 

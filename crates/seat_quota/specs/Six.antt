@@ -2,7 +2,7 @@ use Rattle.std.specs.Prelude.{◌+◌, ◌*◌, ◌%◌, false, ◌==◌, ◌||�
 use Rattle.house_base.specs.declared.plan.Person.{Person}
 use Rattle.house_base.specs.declared.plan.Owner.{Owner}
 use Rattle.house_base.specs.Setting.{Setting}
-use Rattle.house_model.specs.Profile.{Pairs}
+use Rattle.peer_selection.specs.Profile.{Pairs}
 
 -- A worked call: two seats, three clusters, two reviews each, and the applicants a to f, each its own person.
 

@@ -1,8 +1,8 @@
 use Rattle.std.specs.Prelude.{◌≡◌, ℕ, ◌<◌, ◌≤◌, List, [], length, map, get_or, slice_index}
 use Rattle.house_base.specs.Grid.{cell}
 use Rattle.house_base.specs.Setting.{Setting}
-use Rattle.house_model.specs.Counting.{numbers_below}
-use Rattle.house_model.specs.Split.{cents_at}
+use Rattle.peer_selection.specs.Counting.{numbers_below}
+use Rattle.peer_selection.specs.Split.{cents_at}
 use Rattle.review_desk.specs.Desk.{Marks, IsSetUp, desk_profile, points_at}
 use Rattle.seat_quota.specs.Totals.{Shares, HoldsTotals, IsTotals, row_among}
 

@@ -2,8 +2,8 @@ use Rattle.std.specs.Prelude.{◌≡◌, ℕ, ◌+◌, ◌*◌, ◌%◌, ◌<◌
 use Rattle.std.specs.Option.{option_map_or}
 use Rattle.house_base.specs.declared.limits.TheConstants.{DOLLAR, MOST_OWN, MOST_REVIEWS}
 use Rattle.house_base.specs.Setting.{Setting, IsSetting, size, cluster_at}
-use Rattle.house_model.specs.Counting.{sum_below, numbers_below}
-use Rattle.house_model.specs.Profile.{Pairs, Profile, denominator, score, cluster_cents}
+use Rattle.peer_selection.specs.Counting.{sum_below, numbers_below}
+use Rattle.peer_selection.specs.Profile.{Pairs, Profile, denominator, score, cluster_cents}
 
 -- The scores of the applicants by place, the cents of the clusters, and the common denominator.
 pub record Shares : Type 0 where

@@ -2,7 +2,7 @@
 
 ghost use Rattle.std.specs.Prelude.{◌≡◌, ℕ, ◌+◌, ◌-◌, ◌^◌, ◌<◌, ◌≤◌, ◌++◌, length, map, slice_index, IfOk, OnOk};
 ghost use Rattle.house_base.specs.Grid.{cell};
-ghost use Rattle.house_model.specs.Split.{cents_at};
+ghost use Rattle.peer_selection.specs.Split.{cents_at};
 ghost use Rattle.review_desk.specs.Desk.{points_at};
 ghost use Rattle.seat_quota.specs.Totals.{IsRow, among_places, found_in, row_among};
 

@@ -2,7 +2,7 @@
 
 ghost use Rattle.std.specs.Prelude.{◌≡◌, ℕ, ◌<◌, [], IfOk, length, map, get_or};
 ghost use Rattle.house_base.specs.Grid.{cell};
-ghost use Rattle.house_model.specs.Counting.{numbers_below};
+ghost use Rattle.peer_selection.specs.Counting.{numbers_below};
 ghost use Rattle.review_desk.specs.Desk.{IsSetUp};
 ghost use Rattle.seat_quota.specs.Tally.{IsGiven, row_at};
 ghost use Rattle.seat_quota.specs.Totals.{row_among};

@@ -2,8 +2,8 @@
 
 ghost use Rattle.std.specs.Prelude.{◌≡◌, ℕ, ◌+◌, ◌-◌, ◌*◌, ◌<◌, ◌≤◌, ◌≢◌, replicate, length, map, slice_index, IfOk};
 ghost use Rattle.house_base.specs.Setting.{IsSetting, size};
-ghost use Rattle.house_model.specs.Counting.{sum_below};
-ghost use Rattle.house_model.specs.Profile.{score};
+ghost use Rattle.peer_selection.specs.Counting.{sum_below};
+ghost use Rattle.peer_selection.specs.Profile.{score};
 ghost use Rattle.review_desk.specs.Desk.{IsSetUp, desk_profile};
 ghost use Rattle.seat_quota.specs.Tally.{HoldsRows};
 ghost use Rattle.seat_quota.specs.Totals.{HoldsTotals, IsExchange, IsSummed, IsTotals, cluster_sum, found_in};

@@ -1,8 +1,8 @@
 use Rattle.std.proofs.Common.{◌≡◌, ℕ, suc, ◌+◌, ◌-◌, ◌*◌, ◌/◌, ◌%◌, ◌<◌, ◌≤◌, leb, ap, arith}
 use Rattle.std.proofs.Math.Nat.{mul-le-mul_right}
-use Rattle.house_model.specs.Counting.{count_below}
-use Rattle.house_model.specs.Marks.{marks}
-use Rattle.house_model.proofs.MarkLemmas.{marks-reach}
+use Rattle.peer_selection.specs.Counting.{count_below}
+use Rattle.peer_selection.specs.Marks.{marks}
+use Rattle.peer_selection.proofs.MarkLemmas.{marks-reach}
 use Rattle.exact_chance.proofs.chance.Goals as goal
 
 -- the draws that put at least so many marks into a stretch

@@ -1,7 +1,7 @@
 use Rattle.std.proofs.Common.{◌≡◌, ℕ, ◌+◌, ◌-◌, ◌*◌, ◌/◌, ◌%◌, ◌<◌, min, ap, ◌∙◌, inl, inr, arith}
 use Rattle.std.proofs.lemmas.Bool.{cases_lt}
 use Rattle.std.proofs.lemmas.Nat.{div_below, div-mul-add}
-use Rattle.house_model.proofs.MarkLemmas.{marks-below}
+use Rattle.peer_selection.proofs.MarkLemmas.{marks-below}
 use Rattle.seat_lottery.proofs.marks_below.Goals as goal
 
 -- a quotient, rounded up

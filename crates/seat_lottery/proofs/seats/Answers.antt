@@ -1,7 +1,7 @@
 use Rattle.std.proofs.Common.{◌≡◌, ◌-◌, sym, subst, arith}
-use Rattle.house_model.specs.Laws.{IsRounded}
-use Rattle.house_model.specs.Marks.{marks}
-use Rattle.house_model.proofs.MarkLemmas.{marks-apart, marks-rounded}
+use Rattle.peer_selection.specs.Laws.{IsRounded}
+use Rattle.peer_selection.specs.Marks.{marks}
+use Rattle.peer_selection.proofs.MarkLemmas.{marks-apart, marks-rounded}
 use Rattle.seat_lottery.proofs.seats.Goals as goal
 
 pub overflow_sub-result : goal.overflow_sub-result

@@ -1,7 +1,7 @@
 use Rattle.std.proofs.Common.{◌≡◌, sym, ap, ◌∙◌, subst, slice_index, arith}
 use Rattle.std.proofs.lemmas.Bool.{false_from_ne_true, both_ways}
 use Rattle.house_base.specs.Grid.{Square, cell}
-use Rattle.house_model.specs.Counting.{sum_below}
+use Rattle.peer_selection.specs.Counting.{sum_below}
 use Rattle.cut_gap.specs.Cut.{marked, demand_of}
 use Rattle.assign_flow.specs.Draft.{IsDraft}
 use Rattle.assign_flow.specs.Places.{places_of}

@@ -1,7 +1,7 @@
 use Rattle.std.proofs.Common.{◌≡◌, ℕ, ◌-◌, leb, get_or, sym, subst, ◌∙◌, arith}
 use Rattle.house_base.proofs.Settings.{cluster_at-read}
+use Rattle.peer_selection.specs.Profile.{profile_on}
 use Rattle.house_model.specs.Report.{applicant_row}
-use Rattle.review_desk.specs.Desk.{profile_on}
 use Rattle.call_outcome.proofs.OutcomePlaceLemmas.{name_at-read, person_at-read}
 use Rattle.call_outcome.proofs.OutcomeLemmas.{no_row, person-in_range, den-some, applicant_with, applicant_row-from}
 use Rattle.call_outcome.proofs.applicants.applicant_row.Goals as goal

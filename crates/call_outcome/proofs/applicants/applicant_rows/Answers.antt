@@ -1,9 +1,9 @@
 use Rattle.std.proofs.Common.{◌≡◌, map, sym, ap, ◌∙◌, arith}
 use Rattle.house_base.specs.Setting.{size}
-use Rattle.house_model.specs.Counting.{numbers_below}
+use Rattle.peer_selection.specs.Counting.{numbers_below}
+use Rattle.peer_selection.specs.Profile.{profile_on}
 use Rattle.house_model.specs.Report.{place_of_number}
 use Rattle.house_model.specs.Report.{applicant_row, applicant_rows_of}
-use Rattle.review_desk.specs.Desk.{profile_on}
 use Rattle.call_outcome.proofs.OutcomePlaceLemmas.{place_of_number-at}
 use Rattle.call_outcome.proofs.OutcomeLemmas.{rows_more}
 use Rattle.call_outcome.proofs.applicants.applicant_rows.Goals as goal

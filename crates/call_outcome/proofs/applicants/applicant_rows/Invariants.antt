@@ -1,10 +1,9 @@
 use Rattle.std.proofs.Common.{◌≡◌, ℕ, map}
-use Rattle.house_model.specs.Counting.{numbers_below}
-use Rattle.house_model.specs.Profile.{Pairs, Points}
+use Rattle.peer_selection.specs.Counting.{numbers_below}
+use Rattle.peer_selection.specs.Profile.{Pairs, Points, profile_on}
+use Rattle.peer_selection.specs.Laws.{IsAssigned}
 use Rattle.house_model.specs.Report.{place_of_number}
-use Rattle.house_model.specs.Laws.{IsAssigned}
 use Rattle.house_model.specs.Report.{applicant_row, cluster_rows_of}
-use Rattle.review_desk.specs.Desk.{profile_on}
 use Rattle.seat_quota.specs.Totals.{IsTotals}
 use Rattle.call_outcome.proofs.applicants.applicant_rows.Given as goal
 

@@ -1,16 +1,15 @@
 use Rattle.std.proofs.Common.{◌≡◌, ℕ, ◌+◌, ◌-◌, ◌*◌, ◌<◌, ◌≤◌, min, List, [], ◌∷◌, length, map, get_or, sym, ap, subst, ◌∙◌, arith, length-append, All}
 use Rattle.house_base.specs.declared.limits.TheConstants.{MOST_SEATS}
-use Rattle.house_model.specs.Counting.{sum_below, numbers_below}
-use Rattle.house_model.specs.Profile.{cluster_size}
-use Rattle.house_model.proofs.CountingLemmas.{sum_below-zero, sum_below-add_one}
+use Rattle.peer_selection.specs.Counting.{sum_below, numbers_below}
+use Rattle.peer_selection.specs.Profile.{cluster_size, profile_on}
+use Rattle.peer_selection.proofs.CountingLemmas.{sum_below-zero, sum_below-add_one}
 use Rattle.house_model.specs.declared.outcome.ClusterRow.{ClusterRow}
 use Rattle.house_model.specs.Report.{cluster_row, cluster_rows_of}
-use Rattle.review_desk.specs.Desk.{profile_on}
 use Rattle.std.proofs.lemmas.List.Elements.{All-push}
-use Rattle.house_model.specs.Profile.{denominator}
-use Rattle.house_model.proofs.CountingLemmas.{count_below-le}
-use Rattle.house_model.specs.Marks.{marks, is_marked}
-use Rattle.house_model.proofs.MarkLemmas.{marks-settled}
+use Rattle.peer_selection.specs.Profile.{denominator}
+use Rattle.peer_selection.proofs.CountingLemmas.{count_below-le}
+use Rattle.peer_selection.specs.Marks.{marks, is_marked}
+use Rattle.peer_selection.proofs.MarkLemmas.{marks-settled}
 use Rattle.call_outcome.proofs.OutcomeLemmas.{quotas-within, line-fits, row_with, cluster_row-from, rows_more}
 use Rattle.call_outcome.proofs.clusters.cluster_rows.Goals as goal
 

@@ -1,9 +1,8 @@
 use Rattle.std.proofs.Common.{◌≡◌, ◌+◌, ◌*◌, ◌≤◌, length, map, get_or, All}
 use Rattle.house_base.specs.declared.limits.TheConstants.{MOST_SEATS}
-use Rattle.house_model.specs.Counting.{sum_below, numbers_below}
-use Rattle.house_model.specs.Profile.{Pairs, Points}
+use Rattle.peer_selection.specs.Counting.{sum_below, numbers_below}
+use Rattle.peer_selection.specs.Profile.{Pairs, Points, profile_on}
 use Rattle.house_model.specs.Report.{cluster_row}
-use Rattle.review_desk.specs.Desk.{profile_on}
 use Rattle.seat_quota.specs.Totals.{IsTotals}
 use Rattle.call_outcome.proofs.clusters.cluster_rows.Given as goal
 

@@ -2,9 +2,9 @@ use Rattle.std.proofs.Common.{◌≡◌, ℕ, true, false, eqb, sym, ap, ◌∙�
 use Rattle.std.proofs.lemmas.Bool.{ne_eqb, eq-eqb}
 use Rattle.house_base.specs.Setting.{size, cluster_at}
 use Rattle.house_base.proofs.Settings.{cluster_at-read}
-use Rattle.house_model.specs.Counting.{count_below}
-use Rattle.house_model.specs.Profile.{cluster_size}
-use Rattle.house_model.proofs.CountingLemmas.{count_below-zero}
+use Rattle.peer_selection.specs.Counting.{count_below}
+use Rattle.peer_selection.specs.Profile.{cluster_size}
+use Rattle.peer_selection.proofs.CountingLemmas.{count_below-zero}
 use Rattle.call_outcome.proofs.OutcomeStepLemmas.{counted}
 use Rattle.call_outcome.proofs.clusters.cluster_size.Goals as goal
 use Rattle.call_outcome.proofs.clusters.cluster_size.Goals.{then-person-cluster, else-person-cluster}

@@ -1,6 +1,6 @@
 use Rattle.std.proofs.Common.{◌≡◌, ◌≤◌, eqb}
 use Rattle.house_base.specs.Setting.{cluster_at}
-use Rattle.house_model.specs.Counting.{count_below}
+use Rattle.peer_selection.specs.Counting.{count_below}
 use Rattle.call_outcome.proofs.clusters.cluster_size.Given as goal
 
 -- the members among the places so far

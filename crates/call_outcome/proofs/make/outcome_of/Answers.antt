@@ -1,5 +1,5 @@
 use Rattle.std.proofs.Common.{length, ap, ◌∙◌, arith}
-use Rattle.review_desk.specs.Desk.{profile_on}
+use Rattle.peer_selection.specs.Profile.{profile_on}
 use Rattle.call_outcome.proofs.OutcomeLemmas.{outcome_of-from, empty-from}
 use Rattle.call_outcome.proofs.make.outcome_of.Goals as goal
 

@@ -1,9 +1,9 @@
 use Rattle.std.proofs.Common.{◌≡◌, ◌++◌, [], length, sym, ap, ◌∙◌, arith, take, Some, slice_get, append-nil, length-append}
 use Rattle.std.specs.List.{enumerate_from}
 use Rattle.std.proofs.lemmas.Option.{get_or_from_slice_get, same_Some}
+use Rattle.house_base.proofs.AmongLemmas.{bytes_eq-same, bytes_eq-other}
 use Rattle.house_model.specs.Register.{persons, person_of, own_count}
 use Rattle.house_model.proofs.AtIndexLemmas.{same_index}
-use Rattle.house_model.proofs.GroupLemmas.{bytes_eq-same, bytes_eq-other}
 use Rattle.house_model.proofs.RegisterPeopleLemmas.{Apart-persons}
 use Rattle.cluster_draw.specs.Placings.{own_rows}
 use Rattle.cluster_draw.proofs.PeopleLemmas.{own_rows-more, own_rows-same, own_rows-before, own_rows-most, own_left, applicant_parts, applicant_known, whole_own, push_row}

@@ -2,9 +2,9 @@ use Rattle.std.proofs.Common.{◌≡◌, ◌+◌, ◌%◌, ◌<◌, ◌++◌, �
 use Rattle.std.specs.List.Sorted.{IsPermutation, IsSorted}
 use Rattle.std.proofs.lemmas.List.{length-map, get_or-map, map_push, take_all}
 use Rattle.std.proofs.lemmas.Option.{slice_get-get_or, slice_get_within, get_or_from_slice_get}
+use Rattle.house_base.proofs.InOrderLemmas.{In, In-get_or}
 use Rattle.house_model.specs.Register.{persons}
 use Rattle.house_model.specs.Seeds.{person_key, key_cmp, drawn_cluster, drawn_persons}
-use Rattle.house_model.proofs.InOrderLemmas.{In, In-get_or}
 use Rattle.house_model.proofs.SeedLemmas.{Key, IsOrder-order, length-order, moved_names, drawn_persons-sorted, drawn_cluster-at}
 use Rattle.cluster_draw.specs.Placings.{name_of, names_of}
 use Rattle.cluster_draw.specs.declared.placings.Placing.{Placing}

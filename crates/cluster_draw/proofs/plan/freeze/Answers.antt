@@ -1,7 +1,7 @@
 use Rattle.std.proofs.Common.{◌≡◌, ◌<◌, ◌||◌, All, length, sym, ap, ◌∙◌, subst, arith}
 use Rattle.house_base.specs.Setting.{IsSetting}
+use Rattle.peer_selection.specs.Profile.{denominator}
 use Rattle.house_model.specs.Naming.{HasNamesOf}
-use Rattle.house_model.specs.Profile.{denominator}
 use Rattle.house_model.specs.Register.{persons, owners_from, all_placed}
 use Rattle.house_model.specs.Seeds.{seeded_setting}
 use Rattle.cluster_draw.specs.Barred.{is_barred}

@@ -3,7 +3,8 @@ use Rattle.std.proofs.lemmas.Grind.{common_steps}
 use Rattle.std.specs.List.{list_all}
 use Rattle.std.proofs.lemmas.List.{take_all}
 use Rattle.std.proofs.lemmas.List.Folds.{list_all_at}
-use Rattle.house_model.specs.Register.{persons, placed_names, among, all_placed}
+use Rattle.house_base.specs.Text.{among}
+use Rattle.house_model.specs.Register.{persons, placed_names, all_placed}
 use Rattle.cluster_draw.proofs.plan.is_placed.Goals as goal
 
 pub returns-then-is_none : goal.returns-then-is_none

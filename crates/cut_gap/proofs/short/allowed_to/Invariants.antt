@@ -1,6 +1,6 @@
 use Rattle.std.proofs.Common.{◌≡◌, ◌≤◌, ◌&&◌}
 use Rattle.house_base.specs.Grid.{cell}
-use Rattle.house_model.specs.Counting.{count_below}
+use Rattle.peer_selection.specs.Counting.{count_below}
 use Rattle.cut_gap.specs.Cut.{marked}
 use Rattle.cut_gap.proofs.short.allowed_to.Given as goal
 

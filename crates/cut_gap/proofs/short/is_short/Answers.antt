@@ -1,6 +1,6 @@
 use Rattle.std.proofs.Common.{arith}
 use Rattle.std.proofs.lemmas.Bool.Decides.{nat_tests}
-use Rattle.house_model.specs.Shortage.{needed_in, room_outside, allowed}
+use Rattle.peer_selection.specs.Shortage.{needed_in, room_outside, allowed}
 use Rattle.cut_gap.proofs.short.is_short.Goals as goal
 
 pub returns : goal.returns

@@ -1,5 +1,5 @@
 use Rattle.std.proofs.Common.{cond, sym, ◌∙◌, slice_index, arith}
-use Rattle.house_model.proofs.CountingLemmas.{sum_below-zero}
+use Rattle.peer_selection.proofs.CountingLemmas.{sum_below-zero}
 use Rattle.cut_gap.proofs.CutLemmas.{sum_in-takes, sum_in-skips}
 use Rattle.cut_gap.specs.Cut.{marked}
 use Rattle.cut_gap.proofs.short.needed_in.Goals as goal

@@ -1,5 +1,5 @@
 use Rattle.std.proofs.Common.{◌≡◌, ◌≤◌, ◌*◌, cond, slice_index}
-use Rattle.house_model.specs.Counting.{sum_below}
+use Rattle.peer_selection.specs.Counting.{sum_below}
 use Rattle.cut_gap.specs.Cut.{marked}
 use Rattle.cut_gap.proofs.short.needed_in.Given as goal
 

@@ -1,5 +1,5 @@
 use Rattle.std.proofs.Common.{cond, sym, ◌∙◌, slice_index, arith}
-use Rattle.house_model.proofs.CountingLemmas.{sum_below-zero}
+use Rattle.peer_selection.proofs.CountingLemmas.{sum_below-zero}
 use Rattle.cut_gap.proofs.CutLemmas.{sum_outside-takes, sum_outside-skips}
 use Rattle.cut_gap.specs.Cut.{marked}
 use Rattle.cut_gap.proofs.short.room_outside.Goals as goal

@@ -1,7 +1,7 @@
 use Rattle.std.proofs.Common.{◌≡◌, ℕ, true, false, leb, get_or, length, sym, ap, ◌∙◌, arith}
 use Rattle.std.proofs.lemmas.Bool.{le-leb, lt-leb}
-use Rattle.house_model.specs.Counting.{count_below}
-use Rattle.house_model.proofs.CountingLemmas.{count_below-zero}
+use Rattle.peer_selection.specs.Counting.{count_below}
+use Rattle.peer_selection.proofs.CountingLemmas.{count_below-zero}
 use Rattle.dollar_split.proofs.ShareLemmas.{counted}
 use Rattle.dollar_split.proofs.largest_remainder.count_reaching.Goals as goal
 use Rattle.dollar_split.proofs.largest_remainder.count_reaching.Goals.{then-priorities-j, else-priorities-j}

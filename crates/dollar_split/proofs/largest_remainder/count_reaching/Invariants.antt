@@ -1,5 +1,5 @@
 use Rattle.std.proofs.Common.{◌≡◌, ◌≤◌, leb, get_or}
-use Rattle.house_model.specs.Counting.{count_below}
+use Rattle.peer_selection.specs.Counting.{count_below}
 use Rattle.dollar_split.proofs.largest_remainder.count_reaching.Given as goal
 
 abbrev pub invariant-loop-j : goal.invariant-loop-j

@@ -1,9 +1,9 @@
 use Rattle.std.proofs.Common.{◌≡◌, ◌+◌, ◌*◌, ◌/◌, length, ap, ◌∙◌, arith}
 use Rattle.house_base.specs.declared.limits.TheConstants.{DOLLAR}
-use Rattle.house_model.specs.Counting.{sum_below}
-use Rattle.house_model.specs.Split.{base_at, remainder_at}
-use Rattle.house_model.proofs.CountingLemmas.{sum_below-zero, sum_below-add_one, sum_below-longer}
-use Rattle.house_model.proofs.SplitLemmas.{left_over-less, sum-weights}
+use Rattle.peer_selection.specs.Counting.{sum_below}
+use Rattle.peer_selection.specs.Split.{base_at, remainder_at}
+use Rattle.peer_selection.proofs.CountingLemmas.{sum_below-zero, sum_below-add_one, sum_below-longer}
+use Rattle.peer_selection.proofs.SplitLemmas.{left_over-less, sum-weights}
 use Rattle.dollar_split.proofs.ShareLemmas.{base-read, remainder-read, set_more}
 use Rattle.dollar_split.specs.Weighed.{priority_of}
 use Rattle.dollar_split.proofs.largest_remainder.give_bases.Goals as goal

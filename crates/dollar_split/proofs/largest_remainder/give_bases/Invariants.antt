@@ -1,7 +1,7 @@
 use Rattle.std.proofs.Common.{◌≡◌, ℕ, ◌+◌, ◌<◌, get_or}
 use Rattle.house_base.specs.declared.limits.TheConstants.{DOLLAR}
-use Rattle.house_model.specs.Counting.{sum_below}
-use Rattle.house_model.specs.Split.{base_at, remainder_at}
+use Rattle.peer_selection.specs.Counting.{sum_below}
+use Rattle.peer_selection.specs.Split.{base_at, remainder_at}
 use Rattle.dollar_split.specs.Weighed.{priority_of}
 use Rattle.dollar_split.proofs.largest_remainder.give_bases.Given as goal
 

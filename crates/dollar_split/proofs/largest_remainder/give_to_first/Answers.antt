@@ -1,5 +1,5 @@
 use Rattle.std.proofs.Common.{◌+◌, ◌<◌, length, get_or, ap, ◌∙◌, arith}
-use Rattle.house_model.proofs.CountingLemmas.{one_if, one_if-le}
+use Rattle.peer_selection.proofs.CountingLemmas.{one_if, one_if-le}
 use Rattle.dollar_split.specs.Weighed.{extra_at}
 use Rattle.dollar_split.proofs.ShareLemmas.{truth-counts, set_more, set_later}
 use Rattle.dollar_split.proofs.largest_remainder.give_to_first.Goals as goal

@@ -1,5 +1,5 @@
 use Rattle.std.proofs.Common.{◌≡◌, ℕ, ◌<◌, length, get_or, ◌∙◌, arith}
-use Rattle.house_model.specs.Split.{cents_at}
+use Rattle.peer_selection.specs.Split.{cents_at}
 use Rattle.dollar_split.proofs.ShareLemmas.{base-less, cents-from, cents-whole}
 use Rattle.dollar_split.proofs.largest_remainder.split.Goals as goal
 

@@ -1,8 +1,8 @@
 use Rattle.std.proofs.Common.{◌≡◌, ℕ, length, get_or, sym, ap, ◌∙◌, arith}
-use Rattle.house_model.specs.Counting.{sum_below}
-use Rattle.house_model.specs.Split.{weights}
-use Rattle.house_model.proofs.CountingLemmas.{sum_below-zero, sum_below-add_one}
-use Rattle.house_model.proofs.SplitLemmas.{length-weights, sum_below-items}
+use Rattle.peer_selection.specs.Counting.{sum_below}
+use Rattle.peer_selection.specs.Split.{weights}
+use Rattle.peer_selection.proofs.CountingLemmas.{sum_below-zero, sum_below-add_one}
+use Rattle.peer_selection.proofs.SplitLemmas.{length-weights, sum_below-items}
 use Rattle.dollar_split.proofs.largest_remainder.total_weight.Goals as goal
 
 pub loop-i-init : goal.loop-i-init

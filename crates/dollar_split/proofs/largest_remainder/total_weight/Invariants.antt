@@ -1,7 +1,7 @@
 use Rattle.std.proofs.Common.{◌≡◌, ◌*◌, ◌≤◌, get_or}
-use Rattle.house_model.specs.Counting.{sum_below}
-use Rattle.house_model.specs.Split.{weights}
 use Rattle.house_base.specs.declared.limits.TheConstants.{MOST_POINTS}
+use Rattle.peer_selection.specs.Counting.{sum_below}
+use Rattle.peer_selection.specs.Split.{weights}
 use Rattle.dollar_split.proofs.largest_remainder.total_weight.Given as goal
 
 abbrev pub invariant-loop-i : goal.invariant-loop-i

@@ -1,8 +1,8 @@
 use Rattle.std.proofs.Common.{ℕ, ◌<◌, get_or, sym, ap, ◌∙◌, arith}
 use Rattle.house_base.specs.Grid.{cell}
 use Rattle.house_base.specs.Setting.{size}
-use Rattle.house_model.specs.Shortage.{assignment_demand}
-use Rattle.house_model.proofs.FirstAmongLemmas.{has_assignment-exact, has_assignment-missing, first_assignment-same}
+use Rattle.peer_selection.specs.Shortage.{assignment_demand}
+use Rattle.peer_selection.proofs.FirstAmongLemmas.{has_assignment-exact, has_assignment-missing, first_assignment-same}
 use Rattle.cut_gap.specs.Cut.{demand_of, marked}
 use Rattle.assign_flow.specs.Flow.{flow_demand}
 use Rattle.first_assign.proofs.DemandLemmas.{asks-assignment, met-same, met-valid, shortage-same}

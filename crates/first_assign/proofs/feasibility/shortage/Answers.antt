@@ -1,9 +1,9 @@
 use Rattle.std.proofs.Common.{get_or, sym, ap, ◌∙◌}
 use Rattle.std.proofs.lemmas.Bool.{false≢true, false_from_ne_true}
 use Rattle.house_base.specs.Grid.{cell}
-use Rattle.house_model.specs.FirstAssignment.{first_assignment, has_assignment}
-use Rattle.house_model.specs.Shortage.{assignment_demand}
-use Rattle.house_model.proofs.FirstAmongLemmas.{first_assignment-first, has_assignment-exact}
+use Rattle.peer_selection.specs.FirstAssignment.{first_assignment, has_assignment}
+use Rattle.peer_selection.specs.Shortage.{assignment_demand}
+use Rattle.peer_selection.proofs.FirstAmongLemmas.{first_assignment-first, has_assignment-exact}
 use Rattle.cut_gap.specs.Cut.{demand_of, marked}
 use Rattle.first_assign.proofs.DemandLemmas.{asks-assignment, met-same, met-valid, shortage-same}
 use Rattle.first_assign.proofs.feasibility.shortage.Goals as goal

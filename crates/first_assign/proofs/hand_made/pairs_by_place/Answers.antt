@@ -1,8 +1,8 @@
 use Rattle.std.proofs.Common.{◌≡◌, sym, ap, ◌∙◌, arith, [], Some, ◌||◌, ◌&&◌, ◌==◌, bytes_eq, slice_get, get_or}
 use Rattle.std.proofs.lemmas.Option.{get_or_from_slice_get}
 use Rattle.house_base.specs.Grid.{cell}
+use Rattle.house_base.specs.Setting.{name_at}
 use Rattle.house_model.specs.Register.{names, persons, reviewer_at}
-use Rattle.house_model.specs.Report.{name_at}
 use Rattle.house_model.proofs.AtIndexLemmas.{In-slice_get}
 use Rattle.first_assign.proofs.MarkLemmas.{reviewer_found, proposal_found, marked, name_pair-none, name_pair-more}
 use Rattle.first_assign.proofs.PlaceLemmas.{person_formed, first_below}

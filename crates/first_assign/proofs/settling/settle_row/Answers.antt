@@ -1,7 +1,7 @@
 use Rattle.std.proofs.Common.{◌≡◌, ℕ, ◌<◌, ◌≤◌, false, sym, ap, ◌∙◌, arith}
 use Rattle.house_base.specs.Grid.{cell}
 use Rattle.house_base.specs.Setting.{size, may}
-use Rattle.house_model.proofs.CountingLemmas.{one_if, count_below-zero}
+use Rattle.peer_selection.proofs.CountingLemmas.{one_if, count_below-zero}
 use Rattle.first_assign.specs.Settling.{proposal_at}
 use Rattle.first_assign.proofs.SettlingLemmas.{at_below, kept-run, settled-full, settled-row, settled-run}
 use Rattle.first_assign.proofs.settling.settle_row.Goals as goal

@@ -4,8 +4,8 @@ use Rattle.std.proofs.lemmas.List.{length-replicate, get_or-replicate}
 use Rattle.house_base.specs.Grid.{cell}
 use Rattle.house_base.specs.Setting.{size, need, may}
 use Rattle.house_base.specs.declared.limits.TheConstants.{MOST_APPLICANTS}
-use Rattle.house_model.specs.Counting.{all_below, count_below}
-use Rattle.house_model.proofs.CountingLemmas.{all_below-zero, all_below-same, count_below-zero}
+use Rattle.peer_selection.specs.Counting.{all_below, count_below}
+use Rattle.peer_selection.proofs.CountingLemmas.{all_below-zero, all_below-same, count_below-zero}
 use Rattle.first_assign.proofs.StepLemmas.{all_more, is_valid-row_fails, is_valid-rows_hold}
 use Rattle.first_assign.proofs.valid.is_valid.Goals as goal
 

@@ -2,7 +2,7 @@ use Rattle.std.proofs.Common.{◌≡◌, ℕ, ◌<◌, true, ◌||◌, ◌==◌,
 use Rattle.house_base.specs.Grid.{cell}
 use Rattle.house_base.specs.Setting.{size, need, may}
 use Rattle.house_base.specs.declared.limits.TheConstants.{MOST_APPLICANTS}
-use Rattle.house_model.specs.Counting.{all_below, count_below}
+use Rattle.peer_selection.specs.Counting.{all_below, count_below}
 use Rattle.first_assign.proofs.valid.is_valid.Given as goal
 
 abbrev pub invariant-loop-reviewer : goal.invariant-loop-reviewer

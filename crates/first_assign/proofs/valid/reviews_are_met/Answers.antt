@@ -1,5 +1,5 @@
 use Rattle.std.proofs.Common.{sym, ◌∙◌, arith, eq-eqb, ne_eqb}
-use Rattle.house_model.proofs.CountingLemmas.{all_below-zero, all_below-fails}
+use Rattle.peer_selection.proofs.CountingLemmas.{all_below-zero, all_below-fails}
 use Rattle.first_assign.proofs.StepLemmas.{all_more}
 use Rattle.first_assign.proofs.valid.reviews_are_met.Goals as goal
 

@@ -1,5 +1,5 @@
 use Rattle.std.proofs.Common.{◌≡◌, true, ◌==◌, slice_index}
-use Rattle.house_model.specs.Counting.{all_below}
+use Rattle.peer_selection.specs.Counting.{all_below}
 use Rattle.first_assign.proofs.valid.reviews_are_met.Given as goal
 
 abbrev pub invariant-loop-proposal : goal.invariant-loop-proposal

@@ -2,8 +2,8 @@ use Rattle.std.proofs.Common.{◌≡◌, ℕ, true, false, ◌+◌, ◌<◌, ◌
 use Rattle.std.proofs.lemmas.Bool.{and_left}
 use Rattle.house_base.specs.Grid.{cell}
 use Rattle.house_base.specs.Setting.{size, need, may}
-use Rattle.house_model.specs.Counting.{count_below}
-use Rattle.house_model.proofs.CountingLemmas.{all_below-zero, all_below-fails, count_below-zero, count_below-le}
+use Rattle.peer_selection.specs.Counting.{count_below}
+use Rattle.peer_selection.proofs.CountingLemmas.{all_below-zero, all_below-fails, count_below-zero, count_below-le}
 use Rattle.first_assign.proofs.CountLemmas.{counts_begin, counts_more, counts_run}
 use Rattle.first_assign.proofs.StepLemmas.{all_more, all_run, count_passes, count_run}
 use Rattle.first_assign.proofs.valid.row_is_valid.Goals as goal

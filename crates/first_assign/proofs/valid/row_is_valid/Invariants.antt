@@ -1,7 +1,7 @@
 use Rattle.std.proofs.Common.{◌≡◌, true, ◌-◌, ◌≤◌, ◌||◌, not, length}
 use Rattle.house_base.specs.Grid.{cell}
 use Rattle.house_base.specs.Setting.{size, may}
-use Rattle.house_model.specs.Counting.{all_below, count_below}
+use Rattle.peer_selection.specs.Counting.{all_below, count_below}
 use Rattle.first_assign.proofs.CountLemmas.{AreCounts}
 use Rattle.first_assign.proofs.valid.row_is_valid.Given as goal
 

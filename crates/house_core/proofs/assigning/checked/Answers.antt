@@ -1,6 +1,6 @@
 use Rattle.std.proofs.Common.{◌∙◌}
 use Rattle.house_base.specs.Grid.{cell}
-use Rattle.house_model.proofs.SameLemmas.{is_valid-same}
+use Rattle.peer_selection.proofs.SameLemmas.{is_valid-same}
 use Rattle.house_core.proofs.assigning.checked.Goals as goal
 
 pub begun-requires-clause-valid : goal.begun-requires-clause-valid

@@ -1,5 +1,5 @@
 use Rattle.house_base.specs.Grid.{cell}
-use Rattle.house_model.specs.FirstAssignment.{first_assignment}
+use Rattle.peer_selection.specs.FirstAssignment.{first_assignment}
 use Rattle.house_core.proofs.StateLemmas.{begins_as}
 use Rattle.house_core.proofs.assigning.computed.Goals as goal
 

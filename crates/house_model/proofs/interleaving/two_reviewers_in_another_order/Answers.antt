@@ -4,11 +4,12 @@ use Rattle.std.specs.Str.{bytes_eq}
 use Rattle.std.proofs.lemmas.Bool.{false≢true}
 use Rattle.house_base.specs.declared.phase.Phase.{Phase}
 use Rattle.house_base.specs.declared.phase.Phase.TheVariants as phase
+use Rattle.house_base.specs.Text.{Text}
+use Rattle.house_base.proofs.AmongLemmas.{same_text}
 use Rattle.house_model.specs.Interleaving.{standing_in, reviews_naming, names_nobody}
 use Rattle.house_model.specs.Said.{has, phase_after}
-use Rattle.house_model.specs.Text.{Text, Lines, word, words, is_blank}
+use Rattle.house_model.specs.Text.{Lines, word, words, is_blank}
 use Rattle.house_model.specs.Verbs.{is_house, is_review, verb_in, verb_of}
-use Rattle.house_model.proofs.GroupLemmas.{same_text}
 use Rattle.house_model.proofs.interleaving.two_reviewers_in_another_order.Goals as goal
 
 -- of two tests that never hold together, the elements that pass one or the other keep no order between them

@@ -1,8 +1,8 @@
 use Rattle.std.proofs.Common.{◌≡◌, ℕ, true, false, get_or, sym, ap, ◌∙◌, arith}
 use Rattle.house_base.specs.Setting.{size}
-use Rattle.house_model.specs.Counting.{count_below}
-use Rattle.house_model.proofs.CountingLemmas.{count_below-zero}
-use Rattle.review_desk.specs.Desk.{profile_on}
+use Rattle.peer_selection.specs.Counting.{count_below}
+use Rattle.peer_selection.proofs.CountingLemmas.{count_below-zero}
+use Rattle.peer_selection.specs.Profile.{profile_on}
 use Rattle.rank_table.specs.Rank.{goes_before}
 use Rattle.rank_table.proofs.RankLemmas.{counted}
 use Rattle.rank_table.proofs.RankLemmas.{rank-counted}

@@ -1,5 +1,5 @@
 use Rattle.std.proofs.Common.{◌≡◌, ◌≤◌, get_or}
-use Rattle.house_model.specs.Counting.{count_below}
+use Rattle.peer_selection.specs.Counting.{count_below}
 use Rattle.rank_table.specs.Rank.{goes_before}
 use Rattle.rank_table.proofs.place.rank.Given as goal
 

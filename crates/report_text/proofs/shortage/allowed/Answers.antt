@@ -1,7 +1,7 @@
 use Rattle.std.proofs.Common.{ℕ, cond, ◌&&◌, sym, ◌∙◌, arith}
 use Rattle.house_base.specs.Setting.{may, size}
-use Rattle.house_model.specs.Counting.{count_below}
-use Rattle.house_model.proofs.CountingLemmas.{sum_below-zero}
+use Rattle.peer_selection.specs.Counting.{count_below}
+use Rattle.peer_selection.proofs.CountingLemmas.{sum_below-zero}
 use Rattle.cut_gap.proofs.CutLemmas.{sum_in-takes, sum_in-skips}
 use Rattle.cut_gap.specs.Cut.{marked}
 use Rattle.report_text.proofs.shortage.allowed.Goals as goal

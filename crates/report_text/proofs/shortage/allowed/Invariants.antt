@@ -1,7 +1,7 @@
 use Rattle.std.proofs.Common.{◌≡◌, ◌≤◌, ◌*◌, ◌&&◌, cond}
 use Rattle.house_base.specs.Setting.{may, size}
 use Rattle.house_base.specs.declared.limits.TheConstants.{MOST_APPLICANTS}
-use Rattle.house_model.specs.Counting.{count_below, sum_below}
+use Rattle.peer_selection.specs.Counting.{count_below, sum_below}
 use Rattle.cut_gap.specs.Cut.{marked}
 use Rattle.report_text.proofs.shortage.allowed.Given as goal
 

@@ -1,6 +1,6 @@
 use Rattle.std.proofs.Common.{ℕ, ◌&&◌, sym, ◌∙◌, arith}
 use Rattle.house_base.specs.Setting.{may}
-use Rattle.house_model.proofs.CountingLemmas.{count_below-zero}
+use Rattle.peer_selection.proofs.CountingLemmas.{count_below-zero}
 use Rattle.cut_gap.proofs.CutLemmas.{count-takes, count-skips}
 use Rattle.cut_gap.specs.Cut.{marked}
 use Rattle.report_text.proofs.shortage.allowed_to.Goals as goal

@@ -1,6 +1,6 @@
 use Rattle.std.proofs.Common.{cond, sym, ◌∙◌, arith}
 use Rattle.house_base.specs.Setting.{need}
-use Rattle.house_model.proofs.CountingLemmas.{sum_below-zero}
+use Rattle.peer_selection.proofs.CountingLemmas.{sum_below-zero}
 use Rattle.cut_gap.proofs.CutLemmas.{sum_in-takes, sum_in-skips}
 use Rattle.cut_gap.specs.Cut.{marked}
 use Rattle.report_text.proofs.shortage.needed_in.Goals as goal

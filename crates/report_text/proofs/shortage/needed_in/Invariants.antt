@@ -1,7 +1,7 @@
 use Rattle.std.proofs.Common.{◌≡◌, ◌≤◌, ◌*◌, cond}
 use Rattle.house_base.specs.Setting.{need}
 use Rattle.house_base.specs.declared.limits.TheConstants.{MOST_OWN, MOST_REVIEWS}
-use Rattle.house_model.specs.Counting.{sum_below}
+use Rattle.peer_selection.specs.Counting.{sum_below}
 use Rattle.cut_gap.specs.Cut.{marked}
 use Rattle.report_text.proofs.shortage.needed_in.Given as goal
 

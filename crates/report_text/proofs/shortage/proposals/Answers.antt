@@ -1,9 +1,8 @@
 use Rattle.std.proofs.Common.{◌≡◌, ◌+◌, ◌++◌, ◌∷◌, [], map, filter, sym, ap, ◌∙◌, arith}
-use Rattle.house_base.specs.Setting.{size}
-use Rattle.house_model.specs.Counting.{numbers_below}
-use Rattle.house_model.specs.Report.{name_at}
+use Rattle.house_base.specs.Setting.{size, name_at}
+use Rattle.peer_selection.specs.Counting.{numbers_below}
+use Rattle.peer_selection.proofs.CountingLemmas.{numbers_below-add_one}
 use Rattle.house_model.specs.Texts.{proposals_in}
-use Rattle.house_model.proofs.CountingLemmas.{numbers_below-add_one}
 use Rattle.cut_gap.specs.Cut.{marked}
 use Rattle.report_text.proofs.FilterLemmas.{passes_last, skips_last}
 use Rattle.report_text.proofs.PairLineLemmas.{name_of_person}

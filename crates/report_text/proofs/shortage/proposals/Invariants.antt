@@ -1,6 +1,6 @@
 use Rattle.std.proofs.Common.{◌≡◌, map, filter}
-use Rattle.house_model.specs.Counting.{numbers_below}
-use Rattle.house_model.specs.Report.{name_at}
+use Rattle.house_base.specs.Setting.{name_at}
+use Rattle.peer_selection.specs.Counting.{numbers_below}
 use Rattle.cut_gap.specs.Cut.{marked}
 use Rattle.report_text.proofs.shortage.proposals.Given as goal
 

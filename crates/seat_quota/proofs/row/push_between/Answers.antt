@@ -1,7 +1,7 @@
 use Rattle.std.proofs.Common.{◌≡◌, ◌+◌, ◌-◌, ◌++◌, refl, sym, ap, ◌∙◌, arith}
 use Rattle.std.proofs.lemmas.List.{append-nil}
 use Rattle.house_base.specs.Grid.{cell}
-use Rattle.house_model.specs.Counting.{numbers_below}
+use Rattle.peer_selection.specs.Counting.{numbers_below}
 use Rattle.seat_quota.specs.Totals.{among_places}
 use Rattle.seat_quota.proofs.GivenLemmas.{between_run, between_takes}
 use Rattle.seat_quota.proofs.row.push_between.Goals as goal

@@ -2,7 +2,7 @@ use Rattle.std.proofs.Common.{◌≡◌, ◌<◌, ◌≤◌, All, length, map, t
 use Rattle.std.proofs.lemmas.List.{length-set, length-take-le, take_all}
 use Rattle.std.proofs.Math.ListN.{get_or-append}
 use Rattle.house_base.specs.declared.limits.TheConstants.{MOST_POINTS}
-use Rattle.house_model.specs.Split.{cents_at}
+use Rattle.peer_selection.specs.Split.{cents_at}
 use Rattle.review_desk.specs.Desk.{points_at}
 use Rattle.seat_quota.proofs.GivenLemmas.{points_more, points_most}
 use Rattle.seat_quota.proofs.row.row_cents.Goals as goal

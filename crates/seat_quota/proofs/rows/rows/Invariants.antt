@@ -1,6 +1,6 @@
 use Rattle.std.proofs.Common.{◌≡◌, map}
 use Rattle.house_base.specs.Grid.{cell}
-use Rattle.house_model.specs.Counting.{numbers_below}
+use Rattle.peer_selection.specs.Counting.{numbers_below}
 use Rattle.seat_quota.specs.Totals.{row_among}
 use Rattle.seat_quota.proofs.rows.rows.Given as goal
 

@@ -2,7 +2,7 @@ use Rattle.std.proofs.Common.{◌≡◌, ◌+◌, ◌-◌, ◌*◌, ◌<◌, con
 use Rattle.house_base.specs.declared.limits.TheConstants.{DOLLAR}
 use Rattle.house_base.specs.Setting.{size, cluster_at}
 use Rattle.house_base.proofs.Settings.{cluster_at-read}
-use Rattle.house_model.proofs.CountingLemmas.{sum_below-zero}
+use Rattle.peer_selection.proofs.CountingLemmas.{sum_below-zero}
 use Rattle.std.proofs.lemmas.List.{get_or_default, length-set, get_or-replicate, length-replicate}
 use Rattle.seat_quota.proofs.TotalLemmas.{person-in_range, cluster_sum-most, sums-fit, sums_more}
 use Rattle.seat_quota.proofs.totals.cluster_sums.Goals as goal

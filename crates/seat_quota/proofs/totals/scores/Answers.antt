@@ -2,10 +2,10 @@ use Rattle.std.proofs.Common.{◌≡◌, ℕ, ◌<◌, [], length, map, get_or, 
 use Rattle.std.proofs.lemmas.List.{get_or-replicate, length-replicate}
 use Rattle.house_base.specs.Grid.{Square}
 use Rattle.house_base.specs.Setting.{size}
-use Rattle.house_model.specs.Counting.{sum_below}
-use Rattle.house_model.specs.Profile.{cents, score}
-use Rattle.house_model.specs.Split.{cents_at}
-use Rattle.house_model.proofs.CountingLemmas.{sum_below-zero, sum_below-add_one}
+use Rattle.peer_selection.specs.Counting.{sum_below}
+use Rattle.peer_selection.specs.Profile.{cents, score}
+use Rattle.peer_selection.specs.Split.{cents_at}
+use Rattle.peer_selection.proofs.CountingLemmas.{sum_below-zero, sum_below-add_one}
 use Rattle.review_desk.specs.Desk.{desk_profile, points_at}
 use Rattle.seat_quota.specs.Tally.{IsGiven, row_at}
 use Rattle.seat_quota.specs.Totals.{IsRow}

@@ -1,7 +1,7 @@
 use Rattle.std.proofs.Common.{◌≡◌, ℕ, ◌<◌, length, get_or}
 use Rattle.house_base.specs.Setting.{size}
-use Rattle.house_model.specs.Counting.{sum_below}
-use Rattle.house_model.specs.Profile.{cents}
+use Rattle.peer_selection.specs.Counting.{sum_below}
+use Rattle.peer_selection.specs.Profile.{cents}
 use Rattle.review_desk.specs.Desk.{desk_profile}
 use Rattle.seat_quota.proofs.totals.scores.Given as goal
 

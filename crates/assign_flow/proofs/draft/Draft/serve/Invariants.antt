@@ -1,5 +1,5 @@
 use Rattle.std.proofs.Common.{◌≡◌, ℕ, slice_index, vec_len}
-use Rattle.house_model.specs.Counting.{sum_below}
+use Rattle.peer_selection.specs.Counting.{sum_below}
 use Rattle.assign_flow.specs.Draft.{FitsWithin}
 use Rattle.assign_flow.proofs.draft.Draft.serve.Given as goal
 

@@ -1,7 +1,7 @@
 use Rattle.std.proofs.Common.{◌≡◌, ℕ, ◌<◌, true, false, IsTrue, inl, inr, sym, ap, ◌∙◌, subst, arith}
 use Rattle.std.proofs.lemmas.Bool.{cases_Bool, true_from_ne_false}
 use Rattle.house_base.specs.Grid.{Square, cell}
-use Rattle.house_model.specs.Shortage.{is_met}
+use Rattle.peer_selection.specs.Shortage.{is_met}
 use Rattle.assign_flow.specs.Flow.{FlowParts, flow_demand}
 use Rattle.assign_flow.specs.Places.{places_of}
 use Rattle.assign_flow.specs.Reroute.{ChangesFew, IsRerouted}

@@ -1,5 +1,5 @@
 use Rattle.std.proofs.Common.{◌<◌, ◌&&◌, ◌||◌, sym, ap, ◌∙◌, subst, arith}
-use Rattle.house_model.specs.Shortage.{Places}
+use Rattle.peer_selection.specs.Shortage.{Places}
 use Rattle.assign_flow.specs.Places.{places_of}
 use Rattle.assign_flow.specs.Residual.{IsUnderWay}
 use Rattle.assign_flow.specs.Search.{tree_of, reviewer_mark}

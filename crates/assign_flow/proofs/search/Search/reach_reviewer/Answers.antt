@@ -1,6 +1,6 @@
 use Rattle.std.proofs.Common.{◌≡◌, ℕ, ◌<◌, true, false, not, ◌&&◌, ◌||◌, sym, ap, ◌∙◌, subst, arith}
 use Rattle.std.proofs.lemmas.Bool.{and_parts, and_from, both_ways, false_from_ne_true, not-true}
-use Rattle.house_model.specs.Shortage.{Places}
+use Rattle.peer_selection.specs.Shortage.{Places}
 use Rattle.assign_flow.specs.Places.{places_of}
 use Rattle.assign_flow.specs.Residual.{IsUnderWay}
 use Rattle.assign_flow.specs.Search.{tree_of, reviewer_mark}

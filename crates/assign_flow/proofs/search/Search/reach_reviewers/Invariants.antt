@@ -1,6 +1,6 @@
 use Rattle.std.proofs.Common.{◌≡◌, not, vec_len}
-use Rattle.house_model.specs.Counting.{count_below}
-use Rattle.house_model.specs.Shortage.{Places}
+use Rattle.peer_selection.specs.Counting.{count_below}
+use Rattle.peer_selection.specs.Shortage.{Places}
 use Rattle.assign_flow.specs.Places.{places_of}
 use Rattle.assign_flow.specs.Residual.{IsTree}
 use Rattle.assign_flow.specs.Search.{tree_of, GoesFrom}

@@ -1,5 +1,5 @@
 use Rattle.std.proofs.Common.{not, vec_len, ap, ◌∙◌, arith}
-use Rattle.house_model.specs.Counting.{count_below}
+use Rattle.peer_selection.specs.Counting.{count_below}
 use Rattle.assign_flow.specs.Places.{places_of}
 use Rattle.assign_flow.specs.Search.{tree_of, reviewer_mark}
 use Rattle.assign_flow.specs.Ways.{graph_of}

@@ -1,5 +1,5 @@
 use Rattle.std.proofs.Common.{length, ap, ◌∙◌, arith}
-use Rattle.house_model.specs.Register.{among}
+use Rattle.house_base.specs.Text.{among}
 use Rattle.name_index.proofs.IndexLemmas.{IsIndex-push, HaveHints-push, HaveHints-kept}
 use Rattle.name_index.proofs.index.NameIndex.add.Goals as goal
 

@@ -1,6 +1,7 @@
 use Rattle.std.proofs.Common.{sym, ap, ◌∙◌, length}
-use Rattle.house_model.specs.Register.{pair_among, among}
-use Rattle.house_model.proofs.GroupLemmas.{In-among}
+use Rattle.house_base.specs.Text.{among}
+use Rattle.house_base.proofs.AmongLemmas.{In-among}
+use Rattle.house_model.specs.Register.{pair_among}
 use Rattle.register_book.specs.Rows.{holds}
 use Rattle.register_book.specs.Roll.{names_in, persons_in}
 use Rattle.register_book.proofs.NamedLemmas.{where-In}

@@ -1,7 +1,8 @@
 use Rattle.std.proofs.Common.{ap, ◌∙◌, position, bytes_eq, arith}
 use Rattle.std.proofs.lemmas.List.{length-map}
 use Rattle.std.proofs.lemmas.Option.{IfSome_then}
-use Rattle.house_model.specs.Register.{among, names}
+use Rattle.house_base.specs.Text.{among}
+use Rattle.house_model.specs.Register.{names}
 use Rattle.register_book.proofs.SeenLemmas.{names_seen, found_number, found_below}
 use Rattle.register_book.proofs.book.Book.find.Goals as goal
 

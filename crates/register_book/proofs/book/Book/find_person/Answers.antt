@@ -1,5 +1,6 @@
 use Rattle.std.proofs.Common.{ap, ◌∙◌, position, bytes_eq}
-use Rattle.house_model.specs.Register.{among, persons}
+use Rattle.house_base.specs.Text.{among}
+use Rattle.house_model.specs.Register.{persons}
 use Rattle.register_book.proofs.SeenLemmas.{persons_seen, found_number, found_below}
 use Rattle.register_book.proofs.book.Book.find_person.Goals as goal
 

@@ -1,6 +1,7 @@
 use Rattle.std.proofs.Common.{◌<◌, ltb, map, refl, sym, ap, ◌∙◌, arith}
 use Rattle.std.proofs.lemmas.Bool.{false≢true, lt-ltb, not_from_false, not-true}
-use Rattle.house_model.specs.Register.{among, persons}
+use Rattle.house_base.specs.Text.{among}
+use Rattle.house_model.specs.Register.{persons}
 use Rattle.house_model.proofs.RegisterLemmas.{with_place}
 use Rattle.register_book.specs.Roll.{persons_in}
 use Rattle.register_book.proofs.KeptLemmas.{IsBook-place, register_of-place}

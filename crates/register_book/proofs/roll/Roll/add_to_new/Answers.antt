@@ -1,5 +1,5 @@
 use Rattle.std.proofs.Common.{ap, ◌∙◌, arith, length}
-use Rattle.house_model.specs.Register.{among}
+use Rattle.house_base.specs.Text.{among}
 use Rattle.register_book.specs.Roll.{persons_in}
 use Rattle.register_book.proofs.RollLemmas.{length-persons_in, IsRoll-new}
 use Rattle.register_book.proofs.roll.Roll.add_to_new.Goals as goal

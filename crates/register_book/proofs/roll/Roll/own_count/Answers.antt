@@ -1,5 +1,5 @@
 use Rattle.std.proofs.Common.{sym, ap, ◌∙◌, position, bytes_eq}
-use Rattle.house_model.specs.Register.{among}
+use Rattle.house_base.specs.Text.{among}
 use Rattle.register_book.specs.Roll.{own_in}
 use Rattle.register_book.proofs.RollLemmas.{own_in-unknown, own_in-at}
 use Rattle.register_book.proofs.roll.Roll.own_count.Goals as goal

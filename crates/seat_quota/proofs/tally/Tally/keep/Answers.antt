@@ -2,7 +2,7 @@ use Rattle.std.proofs.Common.{◌≡◌, ◌≢◌, ℕ, ◌<◌, ◌≤◌, [],
 use Rattle.std.proofs.lemmas.List.{get_or_default}
 use Rattle.house_base.specs.Grid.{Square, cell}
 use Rattle.house_base.specs.Setting.{size}
-use Rattle.house_model.specs.Split.{cents_at}
+use Rattle.peer_selection.specs.Split.{cents_at}
 use Rattle.review_desk.specs.Desk.{points_at}
 use Rattle.seat_quota.specs.Tally.{DeskTotals, IsGiven, IsTally, row_at}
 use Rattle.seat_quota.specs.Totals.{IsRow, row_among}

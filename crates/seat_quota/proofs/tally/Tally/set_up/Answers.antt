@@ -1,6 +1,6 @@
 use Rattle.std.proofs.Common.{map, sym, ap, ◌∙◌}
 use Rattle.house_base.specs.Grid.{Square, cell}
-use Rattle.house_model.specs.Counting.{numbers_below}
+use Rattle.peer_selection.specs.Counting.{numbers_below}
 use Rattle.seat_quota.specs.Totals.{row_among}
 use Rattle.seat_quota.proofs.tally.Tally.set_up.Goals as goal
 

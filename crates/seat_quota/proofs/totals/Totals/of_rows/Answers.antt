@@ -1,6 +1,6 @@
 use Rattle.std.proofs.Common.{◌≡◌, ℕ, ◌+◌, ◌*◌, ◌<◌, get_or, refl, sym, ap, ◌∙◌, arith}
 use Rattle.review_desk.specs.Desk.{desk_profile}
-use Rattle.house_model.specs.Profile.{denominator}
+use Rattle.peer_selection.specs.Profile.{denominator}
 use Rattle.seat_quota.proofs.TotalLemmas.{score-most, cluster_cents-from, clusters-whole}
 use Rattle.seat_quota.proofs.totals.Totals.of_rows.Goals as goal
 

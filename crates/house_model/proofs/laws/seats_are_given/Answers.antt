@@ -1,9 +1,0 @@
-use Rattle.house_model.proofs.ClusterLemmas.{cumulative_quota-all}
-use Rattle.house_model.proofs.SeatLemmas.{seats-all, seats-rounded}
-use Rattle.house_model.proofs.laws.seats_are_given.Goals as goal
-
-pub returns-clause-all : goal.returns-clause-all
-returns-clause-all c = λ f v h draw. seats-all f v f.setting.clusters draw (cumulative_quota-all f h.setting h.valid)
-
-pub returns-clause-rounded : goal.returns-clause-rounded
-returns-clause-rounded c = λ f v h draw i below. seats-rounded f v f.setting.clusters i draw (cumulative_quota-all f h.setting h.valid) below

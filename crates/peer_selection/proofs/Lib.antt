@@ -1,0 +1,17 @@
+pub mod ChanceLemmas
+pub mod ClusterLemmas
+pub mod CountingLemmas
+pub mod DistanceLemmas
+pub mod FirstAmongLemmas
+pub mod FirstAssignmentLemmas
+pub mod ImpartialLemmas
+pub mod MarkLemmas
+pub mod OrderLemmas
+pub mod PointLemmas
+pub mod RowLemmas
+pub mod SameLemmas
+pub mod SeatLemmas
+pub mod SelectionLemmas
+pub mod SplitLemmas
+pub mod ValidLemmas
+pub mod WorkedLemmas

@@ -1,0 +1,9 @@
+pub mod Counting
+pub mod Split
+pub mod Profile
+pub mod Shortage
+pub mod FirstAssignment
+pub mod Lottery
+pub mod Marks
+pub mod Laws
+pub mod Worked

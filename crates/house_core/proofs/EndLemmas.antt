@@ -1,8 +1,7 @@
 -- How a house ends.
 use Rattle.std.proofs.Common.{◌≡◌, ℕ, ◌<◌, ◌+◌, ◌-◌, ◌^◌, ◌⊎◌, Bool, true, false, length, refl, sym, ap, subst, ◌∙◌, inl, inr, Option, Some, None, Ok, Err}
-use Rattle.std.specs.Prelude.{is_some, IfSome, IsSome, MatchOption}
+use Rattle.std.specs.Prelude.{is_some, IfSome, MatchOption}
 use Rattle.std.specs.Option.{option_map_or}
-use Rattle.std.proofs.lemmas.Bool.{false≢true}
 use Rattle.house_base.specs.Answer.{raised}
 use Rattle.house_base.specs.Setting.{IsSetting}
 use Rattle.house_base.specs.declared.answer.Asides.{Asides}
@@ -34,11 +33,6 @@ use Rattle.house_core.specs.House.{Standing, StandsFor, StopsAs, IsStopAt}
 use Rattle.house_core.specs.Standing.{IsRoundOf, IsState, IsTallyOf, Says}
 use Rattle.house_core.proofs.HouseLemmas.{going, going_says, going_count, raised_below, stop_numbered}
 use Rattle.house_core.proofs.OutcomeSameLemmas.{outcome_of-same}
-
--- before an assignment the phase is the opening
-still_opening : (lines : Lines) → has verb.Assign lines ≡ false → phase_after lines ≡ phase.Opening
-unfolding phase_after
-still_opening lines e = rw e refl
 
 -- how lines end that have a stop, or none
 ends_at_stop : (g : Goal) (lines : Lines) (at : ℕ × Halt) → stop_of (halt g) lines ≡ Some at → ended (halt g) lines ≡ halted at.0 at.1
@@ -114,20 +108,10 @@ drawn_below s round is fixed drawn =
     let below : s.draw < denominator_of s.book = is.drawn (drawn_by s.phase drawn) in
     rw same below
 
--- the round of a run for the report has a tally
-no_tally : (s : State) (round : Round) → IsState s → s.goal ≡ goal.Run → s.round ≡ Some round → round.tally ≡ None → ⊥
-no_tally s round is run fixed none =
-    let kept : IsSome round.tally = rw fixed at (is.tallies (ap looks_at_pairs run)) in
-    let held : false ≡ true = rw none at kept in
-    false≢true held
-
 pub tally_of : (s : State) (round : Round) (tally : DeskTotals) → IsState s → s.round ≡ Some round → round.tally ≡ Some tally → IsTally round.plan.value tally
 tally_of s round tally is fixed some =
     let held : IfSome round.tally (λ t. IsTally round.plan.value t) = rw fixed at is.tallied in
     rw some at held
-
-pub untallied : (s : State) (round : Round) → IsState s → (s.goal ≡ goal.Run) ⊎ (s.phase ≡ phase.Opening) → is_drawn s.phase ≡ true → s.round ≡ Some round → round.tally ≡ None → ⊥
-untallied s round is asked drawn fixed none = no_tally s round is (for_report s asked drawn) fixed none
 
 call_by : (call : Option Call) (has_call : Bool) (lines : Lines) → MatchOption call (has_call ≡ false) (λ c.
     (has_call ≡ true) × (c.seats ≡ seats_of lines) × (c.clusters ≡ clusters_of lines) × (c.reviews ≡ reviews_of lines)) → is_some call ≡ has_call
@@ -159,14 +143,11 @@ module _ (g : Goal) (lines : Lines) (h : Standing) (is : StandsFor g lines h) (n
       let made : has verb.Call lines ≡ true = sym (called lines h.state says) ∙ some in
       rw (ends_last g lines (going g lines h is none) ∙ undrawn_ends lines made (sym phase_says ∙ undrawn)) (number, refl)
 
-  -- behind a draw there is an assignment
-  pub end_unassigned : h.state.round ≡ None → is_drawn h.state.phase ≡ true → ⊥
-  end_unassigned no_round drawn =
-      let unassigned : has verb.Assign lines ≡ false = rw no_round at (going_says g lines h is none).round in
-      let opening : phase_after lines ≡ phase.Opening = still_opening lines unassigned in
-      let undrawn : is_drawn (phase_after lines) ≡ false = ap is_drawn opening in
-      let drawn_after : is_drawn (phase_after lines) ≡ true = sym phase_says ∙ drawn in
-      cc
+  -- behind a draw nothing lacks
+  pub end_drawn : is_some h.state.call ≡ true → is_drawn h.state.phase ≡ true → ended (halt g) lines ≡ Ended.Done
+  end_drawn some drawn =
+      let says = going_says g lines h is none in
+      ends_last g lines (going g lines h is none) ∙ drawn_ends lines (sym (called lines h.state says) ∙ some) (sym phase_says ∙ drawn)
 
   -- the outcome of its assignment at its draw
   pub end_done : (round : Round) (tally : DeskTotals) (outcome : OutcomeParts) → IsState h.state → (h.state.goal ≡ goal.Run) ⊎ (h.state.phase ≡ phase.Opening) →

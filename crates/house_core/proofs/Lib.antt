@@ -6,6 +6,7 @@ pub mod HouseLemmas
 pub mod OutcomeSameLemmas
 pub mod OwnLemmas
 pub mod PushLemmas
+pub mod ReachLemmas
 pub mod RefusalLemmas
 pub mod ReviewKindLemmas
 pub mod ReviewLemmas

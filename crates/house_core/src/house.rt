@@ -1,6 +1,6 @@
 //! The run of a call.
 
-ghost use Rattle.std.specs.Prelude.{◌≡◌, ◌≢◌, ◌-◌, ◌^◌, ◌<◌, ◌⊎◌, [], ◌∷◌, ◌++◌, ◌&&◌, length, true, false, IfSome, IsSome, MatchOption, Some, None, ◌||◌};
+ghost use Rattle.std.specs.Prelude.{◌≡◌, ◌≢◌, ◌-◌, ◌^◌, ◌<◌, ◌⊎◌, [], ◌∷◌, ◌++◌, ◌&&◌, length, true, false, ◌↔◌, IfSome, IsSome, MatchOption, OnErr, Some, None, ◌||◌};
 ghost use Rattle.std.specs.Option.{option_map_or};
 ghost use Rattle.cut_gap.specs.Cut.{marked};
 ghost use Rattle.house_base.specs.Setting.{size};
@@ -9,17 +9,17 @@ ghost use Rattle.house_model.specs.declared.verb.Verb.TheVariants as verb;
 ghost use Rattle.house_model.specs.Ending.{ended, in_force, is_drawn, stop_of};
 ghost use Rattle.house_model.specs.Faults.{looks_at_pairs};
 ghost use Rattle.house_model.specs.Reviews.{asides_of};
-ghost use Rattle.house_model.specs.Runs.{halt};
+ghost use Rattle.house_model.specs.Runs.{end_of, halt, settles};
 ghost use Rattle.house_model.specs.Said.{has, phase_after, setting};
 ghost use Rattle.house_model.specs.Text.{Lines, is_blank};
 ghost use Rattle.house_model.specs.Verbs.{is_review};
-ghost use Rattle.house_core.specs.Ends.{EndsAs, stopped_fault};
+ghost use Rattle.house_core.specs.Ends.{EndsAs, IsEnding, IsEndingAt, last_ending, stopped_fault};
 ghost use Rattle.house_core.specs.House.{IsDeskOf, IsGoing, IsStep, StandsFor, fell_short, has_setting, is_shortage, stopped_step};
 ghost use Rattle.house_core.specs.Standing.{MayLack, took_of};
 
-use crate::round::{Shortage, Stop};
+use crate::round::{Round, Shortage, Stop};
 use crate::state::State;
-use crate::step::{EndFault, Step};
+use crate::step::{EndFault, Ending, Step};
 use call_outcome::outcome_of;
 use command_text::is_blank_at_once;
 use cut_gap::Cut;
@@ -27,6 +27,7 @@ use house_base::{Asides, Memory, Phase, Plan, Reason, Took};
 use house_model::Goal;
 use report_text::Outcome;
 use review_desk::Desk;
+use seat_quota::Tally;
 use std::alloc::Global;
 use std::marker::Model;
 
@@ -82,6 +83,8 @@ impl House {
         // A line that ends the run leaves it stopped.
         ensures stops { ¬ IsGoing result → IsSome self.new.stop }
         ensures stays { ¬ IsGoing result → IfSome self.new.stop (λ stop. stopped_step self.new.lines stop ≡ result) }
+        ensures keeps_state { ¬ IsGoing result → self.new.state ≡ self.old.state }
+        ensures keeps_count { ¬ IsGoing result → self.new.lines ≡ self.old.lines }
 
         // From an accepted assignment on, no line takes memory, and none that is blank or a review line ends the run.
         ensures none_assigned { self.old.stop ≡ None → self.old.state.phase ≢ Phase.Opening → result ≢ Step.Memory }
@@ -110,6 +113,8 @@ impl House {
             MayLack g lines line.now }
         ensures stops { ¬ IsGoing result → IsSome self.new.stop }
         ensures stays { ¬ IsGoing result → IfSome self.new.stop (λ stop. stopped_step self.new.lines stop ≡ result) }
+        ensures keeps_state { ¬ IsGoing result → self.new.state ≡ self.old.state }
+        ensures keeps_count { ¬ IsGoing result → self.new.lines ≡ self.old.lines }
         ensures none_assigned { self.old.state.phase ≢ Phase.Opening → result ≢ Step.Memory }
         ensures none_by_review { (is_blank line.now || is_review line.now) ≡ true → IsGoing result }
     {
@@ -140,17 +145,51 @@ impl House {
         if let Some(stop) = &self.stop {
             return Err(fault_of(self.lines, stop));
         }
+        match self.last() {
+            Ok(Ok(outcome)) => Ok(outcome),
+            Ok(Err(reason)) => Err(EndFault::Refused(self.lines.saturating_add(1), reason)),
+            Err(Memory) => Err(EndFault::Memory),
+        }
+    }
+
+    /// How the run ends with the lines so far. An accepted assignment that reaches the goal has ended it, whatever came
+    /// behind.
+    pub fn ending(&self) -> Ending<'_>
+        ensures ends { (g : Goal) (lines : Lines) → StandsFor g lines self.now → length lines < 2 ^ 64 - 1 →
+            IsEnding (end_of g lines) g (in_force (halt g) lines) result }
+
+        // A run that lacked memory has no other end.
+        ensures memory { self.now.stop ≡ Some Stop.Memory → result ≡ Ending.Memory }
+    {
+        if lacked_memory(&self.stop) {
+            return Ending::Memory;
+        }
+        if let Some(round) = self.reached() {
+            return Ending::Settled(&*round.plan, round.desk());
+        }
+        if let Some(stop) = &self.stop {
+            return ending_at(self.lines, stop);
+        }
+        match self.last() {
+            Ok(Ok(outcome)) => Ending::Done(outcome),
+            Ok(Err(reason)) => Ending::Refused(self.lines.saturating_add(1), reason),
+            Err(Memory) => Ending::Memory,
+        }
+    }
+
+    /// The outcome of a run that goes on, or why the end of its lines is refused.
+    fn last(&self) -> Result<Result<Outcome, Reason>, Memory>
+        requires asked { (self.now.state.goal ≡ Goal.Run) ⊎ (self.now.state.phase ≡ Phase.Opening) }
+        requires going { self.now.stop ≡ None }
+        ensures ends { (g : Goal) (lines : Lines) → StandsFor g lines self.now → length lines < 2 ^ 64 - 1 →
+            IsEnding (ended (halt g) lines) g lines (last_ending self.now.lines result) }
+        ensures memory { OnErr result (is_drawn self.now.state.phase ≡ true) }
+    {
         if self.state.call.is_none() {
-            return Err(EndFault::Refused(self.lines.saturating_add(1), Reason::NoCall));
+            return Ok(Err(Reason::NoCall));
         }
-        if !is_drawn(self.state.phase) {
-            return Err(EndFault::Refused(self.lines.saturating_add(1), Reason::Unfinished));
-        }
-        let Some(round) = &self.state.round else {
-            unreachable!();
-        };
-        let Some(tally) = &round.tally else {
-            unreachable!();
+        let Some((round, tally)) = self.drawn() else {
+            return Ok(Err(Reason::Unfinished));
         };
         match outcome_of(
             self.alloc,
@@ -159,8 +198,42 @@ impl House {
             self.state.asides,
             self.state.draw,
         ) {
-            Ok(outcome) => Ok(outcome),
-            Err(Memory) => Err(EndFault::Memory),
+            Ok(outcome) => Ok(Ok(outcome)),
+            Err(Memory) => Err(Memory),
+        }
+    }
+
+    /// The round of a run for the report, with its tally, once the lottery was drawn.
+    fn drawn(&self) -> Option<(&Round, &Tally)>
+        requires { (self.now.state.goal ≡ Goal.Run) ⊎ (self.now.state.phase ≡ Phase.Opening) }
+        ensures { MatchOption result (is_drawn self.now.state.phase ≡ false)
+            (λ found. (is_drawn self.now.state.phase ≡ true) × (self.now.state.round ≡ Some found.0.now)
+            × (found.0.now.tally ≡ Some found.1.now)) }
+    {
+        if !is_drawn(self.state.phase) {
+            return None;
+        }
+        match &self.state.round {
+            Some(round) => match &round.tally {
+                Some(tally) => Some((round, tally)),
+                None => None,
+            },
+            None => None,
+        }
+    }
+
+    /// The assignment that has reached the goal.
+    fn reached(&self) -> Option<&Round>
+        ensures { MatchOption result
+            ((self.now.state.goal ≡ Goal.Run) ⊎ (self.now.state.phase ≡ Phase.Opening))
+            (λ round. (settles self.now.state.goal ≡ true) × (self.now.state.round ≡ Some round.now)) }
+    {
+        if !settles(self.state.goal) {
+            return None;
+        }
+        match &self.state.round {
+            Some(round) => Some(round),
+            None => None,
         }
     }
 
@@ -190,10 +263,7 @@ impl House {
             × IsDeskOf (in_force (halt g) lines) desk.now) }
     {
         match &self.state.round {
-            Some(round) => match &round.tally {
-                Some(tally) => Some(tally.desk()),
-                None => None,
-            },
+            Some(round) => round.desk(),
             None => None,
         }
     }
@@ -265,6 +335,34 @@ fn fault_of(lines: u64, stop: &Stop) -> EndFault
         Stop::Refused(reason) => EndFault::Refused(lines.saturating_add(1), *reason),
         Stop::Short(_) => EndFault::Short,
         Stop::Memory => EndFault::Memory,
+    }
+}
+
+/// The ending of a run that has stopped behind so many lines.
+fn ending_at(lines: u64, stop: &Stop) -> Ending<'_>
+    ensures { IsEndingAt stop.now lines result }
+{
+    match stop {
+        Stop::Refused(reason) => Ending::Refused(lines.saturating_add(1), *reason),
+        Stop::Short(shortage) => Ending::Short(&*shortage.plan, &shortage.cut),
+        Stop::Memory => Ending::Memory,
+    }
+}
+
+/// Whether a run has stopped for want of memory.
+fn lacked_memory(stop: &Option<Stop>) -> bool
+    ensures { (result ≡ true) ↔ (stop.now ≡ Some Stop.Memory) }
+{
+    matches!(stop, Some(Stop::Memory))
+}
+
+/// Whether a goal is reached by an assignment that is accepted.
+fn settles(goal: Goal) -> bool
+    ensures { result ≡ settles goal }
+{
+    match goal {
+        Goal::Run => false,
+        Goal::Pairs | Goal::Feasible => true,
     }
 }
 

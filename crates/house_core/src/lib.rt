@@ -10,4 +10,4 @@ mod state;
 mod step;
 
 pub use house::House;
-pub use step::{EndFault, Step};
+pub use step::{EndFault, Ending, Step};

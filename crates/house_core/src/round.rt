@@ -1,6 +1,6 @@
 //! What an assignment begins, and why a line may end a run.
 
-ghost use Rattle.std.specs.Prelude.{◌≡◌, IfSome, if◌then◌else◌};
+ghost use Rattle.std.specs.Prelude.{◌≡◌, IfSome, IsSomeAnd, MatchOption, None, if◌then◌else◌};
 ghost use Rattle.house_base.specs.declared.review.ReviewLine.{ReviewLine};
 ghost use Rattle.seat_quota.specs.Tally.{IsTally};
 ghost use Rattle.house_core.specs.Standing.{IsRoundAfter, are_known, kind_at};
@@ -9,6 +9,7 @@ ghost use Rattle.review_desk.specs.Line.{took_as};
 use cut_gap::Cut;
 use house_base::{Kind, Plan, Reason, ReviewLine, Took};
 use register_book::Book;
+use review_desk::Desk;
 use seat_quota::Tally;
 
 /// An accepted assignment: the setting, and the points that are given, where the goal looks at the pairs. The plan is in
@@ -36,6 +37,17 @@ pub enum Stop {
 }
 
 impl Round {
+    /// The desk of the pairs, where they are looked at.
+    pub fn desk(&self) -> Option<&Desk>
+        ensures { MatchOption result (self.now.tally ≡ None)
+            (λ desk. IsSomeAnd self.now.tally (λ tally. desk.now ≡ tally.desk)) }
+    {
+        match &self.tally {
+            Some(tally) => Some(tally.desk()),
+            None => None,
+        }
+    }
+
     /// Takes a whole review line while reviews are taken.
     pub fn review(&mut self, book: &Book, line: &ReviewLine) -> Took
         requires { IfSome self.old.tally (λ tally. IsTally self.old.plan.value tally) }

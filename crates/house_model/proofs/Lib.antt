@@ -14,6 +14,7 @@ pub mod NamingLemmas
 pub mod OrderedLemmas
 pub mod OwnReviewLemmas
 pub mod PairTextLemmas
+pub mod PrintedLemmas
 pub mod ReadBackLemmas
 pub mod RegisterLemmas
 pub mod RegisterPeopleLemmas
@@ -21,9 +22,11 @@ pub mod RegisterPlaceLemmas
 pub mod RegisterSettingLemmas
 pub mod ReportLemmas
 pub mod ReviewerLemmas
+pub mod RowTextLemmas
 pub mod RunEndLemmas
 pub mod SealLemmas
 pub mod SeedLemmas
 pub mod SeedPlaceLemmas
 pub mod SeededSettingLemmas
 pub mod SettledLemmas
+pub mod WordLemmas

@@ -1,6 +1,7 @@
 pub mod Naming
 pub mod Report
 pub mod Text
+pub mod Printed
 pub mod Verbs
 pub mod Commands
 pub mod Register

@@ -1,10 +1,11 @@
 //! Worked examples: each clause is computed from the definitions alone.
 
-ghost use Rattle.std.specs.Prelude.{◌≡◌, ◌++◌, Some, None, [], ◌∷◌, codes};
+ghost use Rattle.std.specs.Prelude.{◌≡◌, ◌++◌, Some, None, [], ◌∷◌, map, codes};
 ghost use Rattle.house_base.specs.declared.answer.Reason.TheVariants as reason;
 ghost use Rattle.house_model.specs.declared.goal.Goal.TheVariants as goal;
 ghost use Rattle.house_model.specs.Ending.{Ended};
 ghost use Rattle.house_model.specs.Examples as call;
+ghost use Rattle.house_model.specs.Printed.{applicant_rows, name_in, chance_at};
 ghost use Rattle.house_model.specs.Reviews.{asides_of, points_of};
 ghost use Rattle.house_model.specs.Said.{seed_of, seal_of, draw_of, setting, run_pairs};
 ghost use Rattle.house_model.specs.Seeds.{seed_draw};
@@ -22,6 +23,15 @@ pub fn four_applicants()
 /// The report of a call in which one person has two applicants.
 pub fn two_of_one_person()
     ensures report { report_of (lines call.two_of_one_person) ≡ call.two_of_one_person_report }
+{}
+
+/// What is first read of that report: the names in the rows of its applicants, and the chance at each index; none
+/// behind the last row.
+pub fn two_of_one_person_as_read()
+    ensures names { map name_in (applicant_rows call.two_of_one_person_report)
+        ≡ codes "a1" ∷ codes "a2" ∷ codes "b" ∷ codes "c" ∷ [] }
+    ensures chances { map (chance_at call.two_of_one_person_report) (0 ∷ 1 ∷ 2 ∷ 3 ∷ 4 ∷ [])
+        ≡ codes "3000000/3000000" ∷ codes "1000000/3000000" ∷ codes "2000000/3000000" ∷ codes "0/3000000" ∷ [] ∷ [] }
 {}
 
 /// How these calls end.

@@ -75,7 +75,7 @@ pub allowed : (before : Lines) (line : Text) → out_of_order before line ≡ fa
 unfolding out_of_order
 allowed before line h = not-false (allows (phase_after before) (verb_in line)) (or_parts (not (allows (phase_after before) (verb_in line))) (comes_again before (verb_in line)) h).0
 
-formed : (line : Text) → ill_formed line ≡ false → has_count (verb_in line) (length (words line)) ≡ true
+pub formed : (line : Text) → ill_formed line ≡ false → has_count (verb_in line) (length (words line)) ≡ true
 unfolding ill_formed
 formed line h = not-false (has_count (verb_in line) (length (words line))) (or_parts (not (has_count (verb_in line) (length (words line)))) (not (digest_is_formed (verb_in line) line)) h).0
 

@@ -2,6 +2,7 @@ pub mod AsideCountLemmas
 pub mod AtIndexLemmas
 pub mod DoneLemmas
 pub mod ExampleLemmas
+pub mod FormedNameLemmas
 pub mod GroupLemmas
 pub mod HeadlineLemmas
 pub mod HouseLineLemmas

@@ -176,7 +176,7 @@ none_fits ((r, true) ∷ rs) h = absurd (cc)
 none_fits ((r, false) ∷ rs) h = (refl, none_fits rs h)
 
 faultless-tests : (g : Goal) (before : Lines) (line : Text) → house_fault g before line ≡ None →
-    (breaks_seal before (verb_in line) line ≡ false) × (is_invalid g before (verb_in line) ≡ false)
+    (not (names_are_formed (verb_in line) line) ≡ false) × (breaks_seal before (verb_in line) line ≡ false) × (is_invalid g before (verb_in line) ≡ false)
 unfolding house_fault
 faultless-tests g before line h =
     let tests = none_fits (
@@ -193,15 +193,21 @@ faultless-tests g before line h =
     ∷ (reason.Unplaced, is_unplaced before (verb_in line))
     ∷ (reason.Invalid, is_invalid g before (verb_in line))
     ∷ []) h in
-    let from_seal = tests.1.1.1.1.1.1.1.1 in
-    (from_seal.0, from_seal.1.1.1.0)
+    let from_name = tests.1.1.1 in
+    let from_seal = from_name.1.1.1.1.1 in
+    (from_name.0, from_seal.0, from_seal.1.1.1.0)
 
 faultless-valid : (g : Goal) (before : Lines) (line : Text) → house_fault g before line ≡ None → is_invalid g before (verb_in line) ≡ false
-faultless-valid g before line h = (faultless-tests g before line h).1
+faultless-valid g before line h = (faultless-tests g before line h).2
+
+-- an accepted line of the house has names of their form
+pub accepted-formed_names : (g : Goal) (before : Lines) (line : Text) → is_house line ≡ true → fault g before line ≡ None → names_are_formed (verb_in line) line ≡ true
+accepted-formed_names g before line house h =
+    not-false (names_are_formed (verb_in line) line) (faultless-tests g before line (faultless-house g before line house h)).0
 
 -- an accepted line of the house keeps to the seal
 pub accepted-keeps_seal : (g : Goal) (before : Lines) (line : Text) → is_house line ≡ true → fault g before line ≡ None → breaks_seal before (verb_in line) line ≡ false
-accepted-keeps_seal g before line house h = (faultless-tests g before line (faultless-house g before line house h)).0
+accepted-keeps_seal g before line house h = (faultless-tests g before line (faultless-house g before line house h)).1
 
 not_short : (answer : Option Reason) (falls : Bool) → option_map_or (λ r. Some (Halt.Refused r)) answer (cond falls (Some Halt.Short) None) ≡ None → falls ≡ false
 not_short (Some r) falls h = absurd (cc)
@@ -215,7 +221,7 @@ made_or_found true false some h k = absurd (cc)
 made_or_found false valid true h k = inr (refl, refl)
 made_or_found false valid false h k = absurd (cc)
 
-first_pairs : (before : Lines) → has_pairs before ≡ false → has_assignment (setting before) ≡ true → IsFirst (setting before) (run_pairs before)
+pub first_pairs : (before : Lines) → has_pairs before ≡ false → has_assignment (setting before) ≡ true → IsFirst (setting before) (run_pairs before)
 unfolding run_pairs
 first_pairs before none some =
     cond_both (has_pairs before) (name_pair (register before).pairs (setting before)) (first_assignment (setting before))
@@ -376,7 +382,7 @@ drawn_late : (p : Phase) → is_drawn p ≡ true → is_before_assignment p ≡ 
 drawn_late phase.Drawn h = refl
 drawn_late p h = absurd (false≢true h)
 
-done-parts : (lines : Lines) → end_of goal.Run lines ≡ Ended.Done → (stop_after (halt goal.Run) [] lines ≡ None) × (has verb.Assign lines ≡ true)
+pub done-parts : (lines : Lines) → end_of goal.Run lines ≡ Ended.Done → (stop_after (halt goal.Run) [] lines ≡ None) × (has verb.Assign lines ≡ true)
 unfolding end_of stop_of last_ended
 done-parts lines h =
     let parts = done_by (stop_after (halt goal.Run) [] lines) (has verb.Call lines) (is_drawn (phase_after lines)) (length lines + 1) h in

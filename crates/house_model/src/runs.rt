@@ -1,17 +1,18 @@
 //! Laws of how runs end. Each is proved once, here, and the functions have nothing to do.
 
-ghost use Rattle.std.specs.Prelude.{◌≡◌, ◌↔◌, ℕ, false, List, Some, None, IsTrue};
+ghost use Rattle.std.specs.Prelude.{◌≡◌, ◌↔◌, ℕ, false, List, Some, None, All, IsTrue};
+ghost use Rattle.house_base.specs.Name.{is_name};
 ghost use Rattle.house_base.specs.Text.{Text};
 ghost use Rattle.peer_selection.specs.FirstAssignment.{IsFirst, has_assignment};
 ghost use Rattle.peer_selection.specs.Profile.{is_valid};
 ghost use Rattle.house_model.specs.declared.goal.Goal.{Goal};
 ghost use Rattle.house_model.specs.declared.goal.Goal.TheVariants as goal;
 ghost use Rattle.house_model.specs.declared.verb.Verb.TheVariants as verb;
-ghost use Rattle.house_model.specs.Ending.{Ended};
+ghost use Rattle.house_model.specs.Ending.{Ended, stop_of};
 ghost use Rattle.house_model.specs.Faults.{fault, looks_at_pairs};
 ghost use Rattle.house_model.specs.Headline.{ComesShort, IsDrawnUnder};
 ghost use Rattle.house_model.specs.Runs.{halt, looked_at, end_of, taken};
-ghost use Rattle.house_model.specs.Said.{setting, seal_of, has_pairs, run_pairs, assigned};
+ghost use Rattle.house_model.specs.Said.{register, setting, seal_of, has_pairs, run_pairs, assigned};
 ghost use Rattle.house_model.specs.Seeds.{seed_seal};
 ghost use Rattle.house_model.specs.Text.{Lines, word};
 ghost use Rattle.house_model.specs.Verbs.{commands};
@@ -32,6 +33,12 @@ pub fn accepted_assignments_are_valid()
         → IsTrue (is_valid (setting before) (run_pairs before)) }
     ensures first { (g : Goal) (before : Lines) (line : Text) → IsTrue (commands verb.Assign line)
         → halt g before line ≡ None → has_pairs before ≡ false → IsFirst (setting before) (run_pairs before) }
+{}
+
+/// Where no line ends the run, the names of the applicants on record and of their persons are of their form.
+pub fn accepted_names_are_formed()
+    ensures { (g : Goal) (lines : Lines) → stop_of (halt g) lines ≡ None
+        → All (λ a. IsTrue (is_name a.0) × IsTrue (is_name a.1)) (register lines).applicants }
 {}
 
 /// What is settled holds of the lines that were taken: some pairs are valid. Those that are printed are, and where none

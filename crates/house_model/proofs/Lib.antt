@@ -11,10 +11,12 @@ pub mod IsolationLemmas
 pub mod KeyOrderLemmas
 pub mod KindLemmas
 pub mod LateLineLemmas
+pub mod NamedPlaceLemmas
 pub mod NamingLemmas
 pub mod OrderedLemmas
 pub mod OwnReviewLemmas
 pub mod PairTextLemmas
+pub mod PrintedCallLemmas
 pub mod PrintedLemmas
 pub mod ReadBackLemmas
 pub mod RegisterLemmas

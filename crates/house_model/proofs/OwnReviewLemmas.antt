@@ -33,7 +33,7 @@ unfolding person_at
 person_at-found s p owner found = ap (λ o. option_map_or (λ owner. owner.name) o []) found
 
 -- the person to whom the applicant at a place belongs
-owner_of : (s : Setting) (p : ℕ) → IsSetting s → p < size s → (owner : Owner) × Contains s.owners owner × IsOwned owner p × (person_at s p ≡ owner.name)
+pub owner_of : (s : Setting) (p : ℕ) → IsSetting s → p < size s → (owner : Owner) × Contains s.owners owner × IsOwned owner p × (person_at s p ≡ owner.name)
 owner_of s p h l =
     let test = λ (o : Owner). leb o.first p && ltb p (o.first + o.own) in
     let some = owned-StandInTurn 0 s.owners (size s) p h.in_turn (omega arith) l in
@@ -156,13 +156,13 @@ module _ (name : Text) (lines : Lines) (p : ℕ) (gives : GiveAssignment lines) 
 -- Two lists that differ in these lines alone.
 
 module _ (name : Text) (lines others : Lines) (same : without name lines ≡ without name others) where
-  setting-one : setting others ≡ setting lines
+  pub setting-one : setting others ≡ setting lines
   setting-one = sym (setting-without name others) ∙ (ap setting (sym same) ∙ setting-without name lines)
 
   assigned-one : assigned goal.Run others ≡ assigned goal.Run lines
   assigned-one = sym (assigned-without name others goal.Run) ∙ (ap (assigned goal.Run) (sym same) ∙ assigned-without name lines goal.Run)
 
-  others_give : GiveAssignment lines → GiveAssignment others
+  pub others_give : GiveAssignment lines → GiveAssignment others
   others_give gives = record {
     forms_setting = rw setting-one gives.forms_setting;
     assigns_validly = rw (setting-one, assigned-one) gives.assigns_validly;

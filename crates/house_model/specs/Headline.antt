@@ -1,7 +1,8 @@
-use Rattle.std.specs.Prelude.{◌≡◌, ℕ, ◌+◌, ◌<◌, ◌∷◌, ◌++◌, false, List, None, IsTrue}
-use Rattle.house_base.specs.Setting.{size}
+use Rattle.std.specs.Prelude.{◌≡◌, ℕ, ◌+◌, ◌<◌, ◌∷◌, ◌++◌, false, List, Some, None, map, slice_get, IsTrue}
+use Rattle.house_base.specs.Setting.{size, name_at}
 use Rattle.house_base.specs.Text.{Text}
 use Rattle.peer_selection.specs.Counting.{count_below, sum_below}
+use Rattle.peer_selection.specs.FirstAssignment.{IsFirst}
 use Rattle.peer_selection.specs.Laws.{IsAssigned, IsRounded}
 use Rattle.peer_selection.specs.Lottery.{seats, selected, chance}
 use Rattle.peer_selection.specs.Profile.{Pairs, denominator, is_valid, quota}
@@ -12,8 +13,11 @@ use Rattle.house_model.specs.Ending.{Ended, stop_of}
 use Rattle.house_model.specs.Faults.{fault}
 use Rattle.house_model.specs.Interleaving.{AreInterleaved}
 use Rattle.house_model.specs.Isolation.{without, IsApplicantOf}
+use Rattle.house_model.specs.Printed.{applicant_rows, name_in, chance_at}
+use Rattle.house_model.specs.Register.{names}
+use Rattle.house_model.specs.Report.{over, place_of_number}
 use Rattle.house_model.specs.Reviews.{profile}
-use Rattle.house_model.specs.Said.{register, denominator_of, setting, draw_of}
+use Rattle.house_model.specs.Said.{register, denominator_of, setting, assigned, has_pairs, seal_of, draw_of}
 use Rattle.house_model.specs.Seeds.{seed_draw, seed_seal}
 use Rattle.house_model.specs.Verbs.{commands}
 use Rattle.house_model.specs.Text.{Lines}
@@ -27,18 +31,37 @@ pub record AreOfCall (lines : Lines) : Type 0 where
   pub assigned : IsAssigned (profile lines)
   pub drawn : draw_of lines < denominator (setting lines)
 
--- each chance is the number of draws, of all that there are, at which the plain lottery selects the applicant
-abbrev pub ChancesAreCounted : Lines → Type 0
-ChancesAreCounted lines = (p : ℕ) → p < size (setting lines)
-    → chance (profile lines) p ≡ count_below (selected (profile lines) p) (denominator (setting lines))
+-- A text has one row for each applicant on record, in register order, with its name. The chance in it is the number of
+-- draws, of all that there are, at which the plain lottery selects this applicant, over the number of draws.
+pub record ChancesAreCounted (lines : Lines) (text : List ℕ) : Type 0 where
+  pub rows : map name_in (applicant_rows text) ≡ names (register lines)
+  pub named : (i : ℕ) → i < size (setting lines)
+      → slice_get (names (register lines)) i ≡ Some (name_at (setting lines) (place_of_number (setting lines) i))
+  pub counted : (i : ℕ) → i < size (setting lines)
+      → chance_at text i
+      ≡ over (count_below (selected (profile lines) (place_of_number (setting lines) i)) (denominator (setting lines)))
+      (denominator (setting lines))
 
--- an applicant's chance is the same whatever its person writes or leaves out as a reviewer
-pub record OwnReviewsChangeNoChance (lines : Lines) : Type 0 where
+-- An applicant's chance is the same whatever its person writes or leaves out as a reviewer: other lines that differ in
+-- nothing else are those of a call with the same setting, and their report has the same chance in each row of an
+-- applicant of this person.
+pub record OwnReviewsChangeNoChance (lines : Lines) (text : List ℕ) : Type 0 where
+  pub still_done : (name : Text) (others : Lines) → without name others ≡ without name lines
+      → end_of goal.Run others ≡ Ended.Done
+  pub same_setting : (name : Text) (others : Lines) → without name others ≡ without name lines
+      → setting others ≡ setting lines
+  pub same_chance : (name : Text) (others : Lines) → without name others ≡ without name lines
+      → (i : ℕ) (applicant : Text × Text) → slice_get (register lines).applicants i ≡ Some applicant
+      → applicant.1 ≡ name → chance_at (report_of others) i ≡ chance_at text i
   pub left_out : (name : Text) (p : ℕ) → IsApplicantOf name lines p
       → chance (profile (without name lines)) p ≡ chance (profile lines) p
-  pub still_done : (name : Text) → end_of goal.Run (without name lines) ≡ Ended.Done
   pub rewritten : (name : Text) (others : Lines) (p : ℕ) → IsApplicantOf name lines p
       → without name others ≡ without name lines → chance (profile others) p ≡ chance (profile lines) p
+
+-- the assignment of a goal is valid, and where none was made by hand, it is the first
+pub record HasValidAssignment (g : Goal) (lines : Lines) : Type 0 where
+  pub valid : IsTrue (is_valid (setting lines) (assigned g lines))
+  pub first : has_pairs lines ≡ false → IsFirst (setting lines) (assigned g lines)
 
 -- the seats of each cluster are its quota, rounded down or up where it is not whole, and make all seats
 pub record SeatsAreQuotasRounded (lines : Lines) : Type 0 where
@@ -63,6 +86,10 @@ pub record IsDrawnUnder (seal : List ℕ) (lines : Lines) : Type 0 where
   pub seed : Text
   pub keeps : seed_seal seed ≡ seal
   pub draws : draw_of lines ≡ seed_draw seed (denominator_of (register lines))
+
+-- the draw keeps to the seal, where there is one
+abbrev pub SealIsKept : Lines → Type 0
+SealIsKept lines = (seal : List ℕ) → seal_of lines ≡ Some seal → IsDrawnUnder seal lines
 
 -- The lines come to an assignment that has no fault and is looked for, and none is valid.
 pub record ComesShort (g : Goal) (lines : Lines) : Type 0 where

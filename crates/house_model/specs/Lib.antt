@@ -14,7 +14,8 @@ pub mod Runs
 pub mod Texts
 pub mod ReadBack
 pub mod Heard
-pub mod Due
+pub mod Outcome
+pub mod EndTexts
 pub mod Examples
 pub mod Isolation
 pub mod Interleaving

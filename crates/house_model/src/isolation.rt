@@ -26,6 +26,11 @@ pub fn reviews_are_not_on_record()
     ensures draw { (name : Text) (lines : Lines) → draw_of (without name lines) ≡ draw_of lines }
 {}
 
+/// What is left out is left out for good: so the lines without those of one person differ from all in these alone.
+pub fn reviews_are_left_out_once()
+    ensures { (name : Text) (lines : Lines) → without name (without name lines) ≡ without name lines }
+{}
+
 /// Without the review lines of one person its points are 0, and those of every other reviewer are what they were.
 pub fn reviews_of_one_person_give_its_points()
     ensures own { (name : Text) (lines : Lines) (r p : ℕ) → reviewer_at (setting lines) r ≡ name

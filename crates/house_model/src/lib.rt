@@ -5,7 +5,6 @@
 pub mod command;
 pub mod examples;
 pub mod faults;
-pub mod form;
 pub mod goal;
 pub mod headline;
 pub mod interleaving;
@@ -19,7 +18,6 @@ pub mod seed_laws;
 pub mod verb;
 
 pub use command::Command;
-pub use form::Form;
 pub use goal::Goal;
 pub use outcome::{ApplicantRow, ClusterRow};
 pub use verb::Verb;

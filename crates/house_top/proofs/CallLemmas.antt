@@ -1,33 +1,50 @@
--- What a call comes to, from the answer to its input.
-use Rattle.std.proofs.Common.{◌≡◌, ℕ, Bool, true, false, not, cond, ◌&&◌, List, [], Option, Some, None, refl, sym, ap, ◌∙◌, subst}
-use Rattle.std.specs.Prelude.{IfSome, MatchOption}
-use Rattle.std.specs.Option.{option_map_or}
+-- What is promised of a call, from the answer to what was asked.
+use Rattle.std.proofs.Common.{◌≡◌, ◌⊎◌, ℕ, Bool, true, false, ◌++◌, [], Option, Some, None, take, refl, sym, ap, ◌∙◌, subst, inl, inr, append-nil}
+use Rattle.std.specs.Prelude.{IfSome, IsSomeAnd}
 use Rattle.std.proofs.lemmas.Option.{IfSome_then}
-use borrow.Enum.Total.{values_d}
+use Rattle.house_io.specs.Faults.{Rose}
+use Rattle.house_io.specs.Sink.{AppendsWhereTold}
 use Rattle.house_base.specs.Text.{Text}
-use Rattle.house_model.specs.contracts.form.Form.{enum as the_form}
-use Rattle.house_model.specs.declared.form.Form.{Form}
-use Rattle.house_model.specs.declared.form.Form.TheVariants as form
 use Rattle.house_model.specs.declared.goal.Goal.{Goal}
 use Rattle.house_model.specs.declared.goal.Goal.TheVariants as goal
-use Rattle.house_model.specs.Due.{Due, IsDueText, IsTextOfForm, due, due_of_end, due_of_form, form_of, outcome}
 use Rattle.house_model.specs.Ending.{Ended}
-use Rattle.house_model.specs.Heard.{heard, is_over}
 use Rattle.house_model.specs.Headline.{AreOfCall, ComesShort}
-use Rattle.house_model.specs.Runs.{end_of, ends_run, looked_at}
+use Rattle.house_model.specs.Heard.{heard, is_over}
+use Rattle.house_model.specs.Outcome.{outcome}
+use Rattle.house_model.specs.Runs.{end_of, ends_run, looked_at, report_of, taken}
+use Rattle.house_model.specs.Text.{Lines, lines}
+use Rattle.house_model.proofs.HeadlineLemmas.{assigned_validly, counted, in_any_order, isolated, means, rounded, sealed, settled_validly}
 use Rattle.house_model.proofs.RunEndLemmas.{shortage-ends}
-use Rattle.house_top.specs.Call.{IsDue, IsDueAnswer, IsShortOrFault, run_words, status_of}
+use Rattle.house_model.proofs.SettledLemmas.{settled-some}
+use borrow.Enum.Total.{values_d}
+use Rattle.house_top.specs.contracts.form.Form.{enum as the_form}
+use Rattle.house_top.specs.declared.form.Form.{Form}
+use Rattle.house_top.specs.declared.form.Form.TheVariants as form
 use Rattle.house_top.specs.declared.status.Status.{Status}
 use Rattle.house_top.specs.declared.status.Status.TheVariants as status
-use Rattle.house_top.proofs.AnswerLemmas.{ends_short_of}
-use Rattle.house_top.proofs.TellLemmas.{never_over, outcome_by}
+use Rattle.house_top.specs.Answer.{Answers, IsAnswerTo, IsAnswered, IsShortOrFault, IsWhole}
+use Rattle.house_top.specs.Due.{IsDueText, IsRunText, due_status, hears, reported, run_of, status_of_end}
+use Rattle.house_io.specs.Files.{Contents}
+use Rattle.house_top.specs.Given.{Given, told}
+use Rattle.house_top.specs.Promise.{Counts, EndsAsDue, IsDue, IsWellAssigned, KeepsThePromise, ReadsFarEnough, WritesWhatIsDue}
+use Rattle.house_top.proofs.AnswerLemmas.{ends_short_of, goes_to_report, taken_done}
+use Rattle.house_top.proofs.EndLemmas.{never_drawn}
+use Rattle.house_top.proofs.FrontLemmas.{heard_within}
+use Rattle.house_top.proofs.TellLemmas.{outcome_by}
 
--- what is due, by what the words ask for
-pub due_by : (words : List Text) (input : List ℕ) (asked : Option Form) → form_of words ≡ asked → due words input ≡ option_map_or (λ asked. due_of_form asked input) asked Due.Usage
-unfolding due
-due_by words input asked h = ap (λ asked. option_map_or (λ asked. due_of_form asked input) asked Due.Usage) h
+-- A status is one of four kinds.
 
-pub is_due : (d : Due) (s : Status) → s ≡ status_of d → IsDue d s
+whole_answered : (s : Status) → IsAnswered s → IsWhole s
+whole_answered status.Done h = h
+whole_answered status.Usage h = absurd h
+whole_answered (status.Refused line reason) h = h
+whole_answered status.Short h = h
+whole_answered status.ReadFault h = h
+whole_answered status.WriteFault h = h
+whole_answered status.Memory h = h
+whole_answered status.TooLong h = h
+
+is_due : (d s : Status) → s ≡ d → IsDue d s
 is_due d status.Done h = h
 is_due d status.Usage h = h
 is_due d (status.Refused line reason) h = h
@@ -37,85 +54,317 @@ is_due d status.WriteFault h = tt
 is_due d status.Memory h = tt
 is_due d status.TooLong h = h
 
--- what holds of every input holds of one that is told
-pub for_told : {P : List ℕ → Type 0} (told : Option (List ℕ)) → ((bytes : List ℕ) → P bytes) → IfSome told P
+not_usage : (s : Status) → IsAnswered s → s ≡ status.Usage → ⊥
+not_usage s answered is = subst IsAnswered is answered
+
+not_read_fault : (s : Status) → IsAnswered s → s ≡ status.ReadFault → ⊥
+not_read_fault s answered is = subst IsAnswered is answered
+
+not_write_fault : (s : Status) → IsAnswered s → s ≡ status.WriteFault → ⊥
+not_write_fault s answered is = subst IsAnswered is answered
+
+not_memory : (s : Status) → IsAnswered s → s ≡ status.Memory → ⊥
+not_memory s answered is = subst IsAnswered is answered
+
+asked_something : (asked : Option Form) (f : Form) → asked ≡ Some f → asked ≡ None → ⊥
+asked_something asked f some none = let wrong : Some f ≡ None = sym some ∙ none in cc
+
+-- what holds of everything holds of what is told
+for_told : {A : Type 0} {P : A → Type 0} (told : Option A) → ((x : A) → P x) → IfSome told P
 for_told None h = tt
-for_told (Some bytes) h = h bytes
+for_told (Some x) h = h x
 
--- the word `run` asks for the report
-pub run_asks : form_of run_words ≡ Some (form.Input goal.Run)
-unfolding form_of
-run_asks = refl
+-- The runs of the forms.
 
-same_goal : (g h : Goal) → Some (form.Input g) ≡ Some (form.Input h) → g ≡ h
-same_goal g h e = cc
+-- the run of a call ends with its status, or its input is too long
+RunsTo : Goal → Lines → Status → Type 0
+RunsTo g all s = (s ≡ status_of_end (Some (end_of g all))) ⊎ ((s ≡ status.TooLong) × (ends_run g all ≡ false))
 
-pub goal_of_run : (words : List Text) (g : Goal) → words ≡ run_words → form_of words ≡ Some (form.Input g) → g ≡ goal.Run
-goal_of_run words g run asks = same_goal g goal.Run (sym asks ∙ ap form_of run ∙ run_asks)
+run_by : (g : Goal) (input : Text) (over ends : Bool) → is_over input ≡ over → ends_run g (heard input) ≡ ends → RunsTo g (heard input) (status_of_end (outcome g [] input))
+unfolding RunsTo
+run_by g input false ends h e = inl (ap status_of_end (outcome_by g [] input false ends h e))
+run_by g input true true h e = inl (ap status_of_end (outcome_by g [] input true true h e))
+run_by g input true false h e = inr (ap status_of_end (outcome_by g [] input true false h e), e)
 
-pub one_goal : (words : List Text) (g h : Goal) → form_of words ≡ Some (form.Input g) → form_of words ≡ Some (form.Input h) → g ≡ h
-one_goal words g h a b = same_goal g h (sym a ∙ b)
+due_runs : (asked : Option Form) (given : Given) → IfSome (run_of asked given) (λ run. RunsTo run.0 run.1 (due_status asked given))
+unfolding due_status
+due_runs None given = tt
+due_runs (Some (form.Input g)) given = run_by g given.input (is_over given.input) (ends_run g (heard given.input)) refl refl
 
--- Shortages.
-
-short_due : (d : Due) → status_of d ≡ status.Short → d ≡ Due.Short
-short_due Due.Done h = absurd (let wrong : ⊥ = cc in wrong)
-short_due Due.Usage h = absurd (let wrong : ⊥ = cc in wrong)
-short_due (Due.Refused line reason) h = absurd (let wrong : ⊥ = cc in wrong)
-short_due Due.Short h = refl
-short_due Due.TooLong h = absurd (let wrong : ⊥ = cc in wrong)
-
-short_end : (e : Ended) → due_of_end e ≡ Due.Short → e ≡ Ended.Short
+short_end : (e : Ended) → status_of_end (Some e) ≡ status.Short → e ≡ Ended.Short
 short_end Ended.Done h = absurd (let wrong : ⊥ = cc in wrong)
 short_end (Ended.Refused line reason) h = absurd (let wrong : ⊥ = cc in wrong)
 short_end Ended.Short h = refl
 short_end Ended.Settled h = absurd (let wrong : ⊥ = cc in wrong)
 
-not_long : (b : Bool) (e : Ended) → cond b Due.TooLong (due_of_end e) ≡ Due.Short → e ≡ Ended.Short
-not_long true e h = absurd (let wrong : ⊥ = cc in wrong)
-not_long false e h = short_end e h
+done_end : (e : Ended) → status_of_end (Some e) ≡ status.Done → (e ≡ Ended.Done) ⊎ (e ≡ Ended.Settled)
+done_end Ended.Done h = inl refl
+done_end (Ended.Refused line reason) h = absurd (let wrong : ⊥ = cc in wrong)
+done_end Ended.Short h = absurd (let wrong : ⊥ = cc in wrong)
+done_end Ended.Settled h = inr refl
 
-short_outcome : (g : Goal) (input : Text) → outcome g input ≡ Due.Short → end_of g (heard input) ≡ Ended.Short
-short_outcome g input h = not_long (is_over input && not (ends_run g (heard input))) (end_of g (heard input)) (sym (outcome_by g input (is_over input) (ends_run g (heard input)) refl refl) ∙ h)
+comes_short : (g : Goal) (all : Lines) (s : Status) → RunsTo g all s → s ≡ status.Short → ComesShort g (looked_at g all)
+unfolding RunsTo
+comes_short g all s (inl ends) short = (shortage-ends g all).0 (short_end (end_of g all) (sym ends ∙ short))
+comes_short g all s (inr long) short = absurd (let wrong : status.TooLong ≡ status.Short = sym long.0 ∙ short in cc)
 
-pub comes_short : (g : Goal) (input : Text) (s : Status) (text : List ℕ) → IsDueAnswer g input s text → s ≡ status.Short → ComesShort g (looked_at g (heard input))
-comes_short g input s text answer short =
-    (shortage-ends g (heard input)).0 (short_outcome g input (short_due (outcome g input) (sym answer.ends ∙ short)))
+told_short : (g : Goal) (all : Lines) (s : Status) → RunsTo g all s → ComesShort g (looked_at g all) → IsShortOrFault s
+unfolding RunsTo
+told_short g all s (inl ends) comes = subst IsShortOrFault (sym (ends ∙ ap (λ e. status_of_end (Some e)) ((shortage-ends g all).1 comes))) tt
+told_short g all s (inr long) comes =
+    absurd (let wrong : false ≡ true = sym long.1 ∙ ends_short_of g all ((shortage-ends g all).1 comes) in cc)
 
--- an input whose lines come short is told to be so
-pub told_short : (g : Goal) (input : Text) (s : Status) (text : List ℕ) → IsDueAnswer g input s text → ComesShort g (looked_at g (heard input)) → IsShortOrFault s
-told_short g input s text answer comes =
-    let end = (shortage-ends g (heard input)).1 comes in
-    let due_is : outcome g input ≡ Due.Short =
-    outcome_by g input (is_over input) true refl (ends_short_of g (heard input) end) ∙ never_over (is_over input) Due.TooLong (due_of_end (end_of g (heard input))) ∙ ap due_of_end end in
-    subst IsShortOrFault (sym (answer.ends ∙ ap status_of due_is)) tt
+well_assigned : (g : Goal) (all : Lines) (s : Status) → RunsTo g all s → s ≡ status.Done → (g ≡ goal.Run → AreOfCall all) → IsWellAssigned g (taken g all)
+unfolding RunsTo
+well_assigned g all s (inr long) done call = absurd (let wrong : status.TooLong ≡ status.Done = sym long.0 ∙ done in cc)
+well_assigned g all s (inl ends) done call = by_goal g call (done_end (end_of g all) (sym ends ∙ done))
+  where
+    by_goal : (g : Goal) → (g ≡ goal.Run → AreOfCall all) → (end_of g all ≡ Ended.Done) ⊎ (end_of g all ≡ Ended.Settled) → IsWellAssigned g (taken g all)
+    by_goal goal.Run call end = let of = call refl in subst (IsWellAssigned goal.Run) (sym (taken_done all of.done)) (assigned_validly all of)
+    by_goal goal.Pairs call (inl drawn) = absurd (never_drawn goal.Pairs all refl drawn)
+    by_goal goal.Pairs call (inr settled) = settled_validly all settled
+    by_goal goal.Feasible call (inl drawn) = absurd (never_drawn goal.Feasible all refl drawn)
+    by_goal goal.Feasible call (inr settled) = settled-some goal.Feasible all settled
 
--- Where the source tells its bytes.
+-- a run for the report is of lines whose report is written
+run_is_reported : (asked : Option Form) (given : Given) → IfSome (reported asked given) AreOfCall → IfSome (run_of asked given) (λ run. run.0 ≡ goal.Run → AreOfCall run.1)
+run_is_reported None given call = tt
+run_is_reported (Some (form.Input goal.Run)) given call = λ run. call
+run_is_reported (Some (form.Input goal.Pairs)) given call = λ run. absurd (let wrong : ⊥ = cc in wrong)
+run_is_reported (Some (form.Input goal.Feasible)) given call = λ run. absurd (let wrong : ⊥ = cc in wrong)
+
+-- The reports of the forms.
+
+run_done : (e : Option Ended) → status_of_end e ≡ status.Done → IsSomeAnd e (λ end. (end ≡ Ended.Done) ⊎ (end ≡ Ended.Settled))
+run_done None h = absurd (let wrong : ⊥ = cc in wrong)
+run_done (Some e) h = done_end e h
+
+done_run_text : (e : Option Ended) (all : Lines) (text : Text) → status_of_end e ≡ status.Done → IsRunText e goal.Run all text → text ≡ report_of all
+done_run_text None all text done h = absurd (let wrong : ⊥ = cc in wrong)
+done_run_text (Some Ended.Done) all text done h = h
+done_run_text (Some Ended.Settled) all text done h = h
+done_run_text (Some (Ended.Refused line reason)) all text done h = absurd (let wrong : ⊥ = cc in wrong)
+done_run_text (Some Ended.Short) all text done h = absurd (let wrong : ⊥ = cc in wrong)
+
+-- the text that is due where a report is written is the report of its lines
+report_is_due : (asked : Option Form) (given : Given) (text : Text) → due_status asked given ≡ status.Done → IsDueText asked given text → IfSome (reported asked given) AreOfCall →
+    IfSome (reported asked given) (λ all. text ≡ report_of all)
+unfolding due_status
+report_is_due None given text done h call = tt
+report_is_due (Some (form.Input goal.Run)) given text done h call =
+    done_run_text (outcome goal.Run [] given.input) (taken goal.Run (heard given.input)) text done h ∙ ap report_of (taken_done (heard given.input) call.done)
+report_is_due (Some (form.Input goal.Pairs)) given text done h call = tt
+report_is_due (Some (form.Input goal.Feasible)) given text done h call = tt
+
+not_over : (input : Text) (over : Bool) → is_over input ≡ over → ends_run goal.Run (heard input) ≡ false → status_of_end (outcome goal.Run [] input) ≡ status.Done → is_over input ≡ false
+not_over input false h goes done = h
+not_over input true h goes done =
+    absurd (let wrong : status.TooLong ≡ status.Done = sym (ap status_of_end (outcome_by goal.Run [] input true false h goes)) ∙ done in cc)
+
+-- the lines of a report are all lines of the input, behind the opening
+all_lines : (asked : Option Form) (given : Given) → due_status asked given ≡ status.Done → IfSome (reported asked given) AreOfCall →
+    IfSome (reported asked given) (λ all. IfSome (hears asked given) (λ h. all ≡ h.1 ++ lines given.input))
+unfolding due_status
+all_lines None given done call = tt
+all_lines (Some (form.Input goal.Run)) given done call =
+    heard_within given.input (not_over given.input (is_over given.input) refl (goes_to_report (heard given.input) call.done) done)
+all_lines (Some (form.Input goal.Pairs)) given done call = tt
+all_lines (Some (form.Input goal.Feasible)) given done call = tt
+
+-- Where the words are of no form.
+
+two_told : {A : Type 0} {P Q R : A → Type 0} (told : Option A) → IfSome told P → IfSome told Q → ((x : A) → P x → Q x → R x) → IfSome told R
+two_told None p q h = tt
+two_told (Some x) p q h = h x p q
+
+appends_nothing : (shown : Option Text) → AppendsWhereTold shown shown []
+appends_nothing None = tt
+appends_nothing (Some now) = sym (append-nil now)
+
+no_form_ends : (given : Option Given) (reads writes : Counts) → EndsAsDue None given status.Usage reads writes
+unfolding due_status
+no_form_ends given reads writes = record {
+  usage = (λ is. refl, λ is. refl);
+  due = for_told given (λ given. refl);
+  complete = for_told given (λ given unread unwritten. inl refl);
+  read_fault = λ is. absurd (let wrong : ⊥ = cc in wrong);
+  write_fault = λ is. absurd (let wrong : ⊥ = cc in wrong);
+}
+
+pub usage_ends : (asked : Option Form) (given : Option Given) (reads writes : Counts) → asked ≡ None → EndsAsDue asked given status.Usage reads writes
+usage_ends asked given reads writes none = subst (λ asked. EndsAsDue asked given status.Usage reads writes) (sym none) (no_form_ends given reads writes)
+
+pub usage_writes : {O : Type 0} (shown : O → Option Text) (asked : Option Form) (given : Option Given) (old : O) → asked ≡ None → WritesWhatIsDue shown asked given status.Usage old old
+usage_writes {O} shown asked given old none = subst (λ asked. WritesWhatIsDue shown asked given status.Usage old old) (sym none) (record {
+  whole_text = for_told given (λ given whole. ([], refl, appends_nothing (shown old)));
+  write_fault_front = for_told given (λ given is. absurd (let wrong : ⊥ = cc in wrong));
+  usage_writes_nothing = λ is. refl;
+  read_fault_writes_nothing = λ is. refl;
+  memory_writes_nothing = λ is. refl;
+})
+
+pub usage_promise : (asked : Option Form) (given : Option Given) (before after : Option Text) → asked ≡ None → KeepsThePromise asked given status.Usage before after
+usage_promise asked given before after none = subst (λ asked. KeepsThePromise asked given status.Usage before after) (sym none) (record {
+  chances_are_counted = λ is. for_told given (λ given. tt);
+  own_reviews_change_no_chance = λ is. for_told given (λ given. tt);
+  seats_are_quotas_rounded = λ is. for_told given (λ given. tt);
+  quotas_are_means = λ is. for_told given (λ given. tt);
+  order_of_arrival_changes_nothing = λ is. for_told given (λ given. tt);
+  seal_is_kept = λ is. for_told given (λ given. tt);
+  all_lines_are_run = λ is. for_told given (λ given. tt);
+  assignment_is_valid = λ is. for_told given (λ given. tt);
+  short_for_want_of_an_assignment = λ is. for_told given (λ given. tt);
+  want_of_an_assignment_is_told = for_told given (λ given. tt);
+})
+
+pub usage_reads : {I : Type 0} (left : I → Option Text) (asked : Option Form) (given : Option Given) (old : I) → asked ≡ None → ReadsFarEnough left asked given status.Usage old old
+usage_reads {I} left asked given old none = subst (λ asked. ReadsFarEnough left asked given status.Usage old old) (sym none) (record {
+  read_far_enough = λ read kept. for_told given (λ given. tt);
+  read_fault_undecided = λ is. for_told given (λ given. tt);
+  read_no_further = for_told given (λ given. tt);
+  read_to_end = λ is. for_told given (λ given. tt);
+  usage_reads_nothing = λ is. refl;
+})
+
+-- Where there is no answer, or where it is not given whole.
+
+pub read_fault_ends : (asked : Option Form) (f : Form) (given : Option Given) (reads writes : Counts) → asked ≡ Some f → Rose reads.0 reads.1 → EndsAsDue asked given status.ReadFault reads writes
+read_fault_ends asked f given reads writes some rose = record {
+  usage = (λ is. absurd (let wrong : ⊥ = cc in wrong), λ none. absurd (asked_something asked f some none));
+  due = for_told given (λ given. tt);
+  complete = for_told given (λ given unread unwritten. absurd (unread rose));
+  read_fault = λ is. rose;
+  write_fault = λ is. absurd (let wrong : ⊥ = cc in wrong);
+}
+
+pub memory_ends : (asked : Option Form) (f : Form) (given : Option Given) (reads writes : Counts) → asked ≡ Some f → EndsAsDue asked given status.Memory reads writes
+memory_ends asked f given reads writes some = record {
+  usage = (λ is. absurd (let wrong : ⊥ = cc in wrong), λ none. absurd (asked_something asked f some none));
+  due = for_told given (λ given. tt);
+  complete = for_told given (λ given unread unwritten. inr refl);
+  read_fault = λ is. absurd (let wrong : ⊥ = cc in wrong);
+  write_fault = λ is. absurd (let wrong : ⊥ = cc in wrong);
+}
+
+pub write_fault_ends : (asked : Option Form) (f : Form) (given : Option Given) (reads writes : Counts) → asked ≡ Some f → Rose writes.0 writes.1 → EndsAsDue asked given status.WriteFault reads writes
+write_fault_ends asked f given reads writes some rose = record {
+  usage = (λ is. absurd (let wrong : ⊥ = cc in wrong), λ none. absurd (asked_something asked f some none));
+  due = for_told given (λ given. tt);
+  complete = for_told given (λ given unread unwritten. absurd (unwritten rose));
+  read_fault = λ is. absurd (let wrong : ⊥ = cc in wrong);
+  write_fault = λ is. rose;
+}
+
+pub read_fault_writes : {O : Type 0} (shown : O → Option Text) (asked : Option Form) (given : Option Given) (old : O) → WritesWhatIsDue shown asked given status.ReadFault old old
+read_fault_writes {O} shown asked given old = record {
+  whole_text = for_told given (λ given whole. absurd whole);
+  write_fault_front = for_told given (λ given is. absurd (let wrong : ⊥ = cc in wrong));
+  usage_writes_nothing = λ is. refl;
+  read_fault_writes_nothing = λ is. refl;
+  memory_writes_nothing = λ is. refl;
+}
+
+pub memory_writes : {O : Type 0} (shown : O → Option Text) (asked : Option Form) (given : Option Given) (old : O) → WritesWhatIsDue shown asked given status.Memory old old
+memory_writes {O} shown asked given old = record {
+  whole_text = for_told given (λ given whole. absurd whole);
+  write_fault_front = for_told given (λ given is. absurd (let wrong : ⊥ = cc in wrong));
+  usage_writes_nothing = λ is. refl;
+  read_fault_writes_nothing = λ is. refl;
+  memory_writes_nothing = λ is. refl;
+}
+
+pub write_fault_writes : {O : Type 0} (shown : O → Option Text) (asked : Option Form) (given : Option Given) (s : Status) (text : Text) (old new : O) → Answers asked given s text →
+    (count : ℕ) × AppendsWhereTold (shown old) (shown new) (take count text) → WritesWhatIsDue shown asked given status.WriteFault old new
+write_fault_writes {O} shown asked given s text old new answers front = record {
+  whole_text = for_told given (λ given whole. absurd whole);
+  write_fault_front = IfSome_then given answers.as_due (λ given answer is. (text, answer.writes, front));
+  usage_writes_nothing = λ is. absurd (let wrong : ⊥ = cc in wrong);
+  read_fault_writes_nothing = λ is. absurd (let wrong : ⊥ = cc in wrong);
+  memory_writes_nothing = λ is. absurd (let wrong : ⊥ = cc in wrong);
+}
+
+-- a fault keeps each promise, since it says nothing but that there was one
+pub fault_promise : (asked : Option Form) (given : Option Given) (s : Status) (before after : Option Text) → (s ≡ status.Done → ⊥) → (s ≡ status.Short → ⊥) → IsShortOrFault s →
+    KeepsThePromise asked given s before after
+fault_promise asked given s before after not_done not_short faulty = record {
+  chances_are_counted = λ is. absurd (not_done is);
+  own_reviews_change_no_chance = λ is. absurd (not_done is);
+  seats_are_quotas_rounded = λ is. absurd (not_done is);
+  quotas_are_means = λ is. absurd (not_done is);
+  order_of_arrival_changes_nothing = λ is. absurd (not_done is);
+  seal_is_kept = λ is. absurd (not_done is);
+  all_lines_are_run = λ is. absurd (not_done is);
+  assignment_is_valid = λ is. absurd (not_done is);
+  short_for_want_of_an_assignment = λ is. absurd (not_short is);
+  want_of_an_assignment_is_told = for_told given (λ given. for_told (run_of asked given) (λ run comes. faulty));
+}
+
+-- an answer that is not given whole was read as far
+pub reads_unwritten : {I : Type 0} (left : I → Option Text) (asked : Option Form) (given : Option Given) (s : Status) (old new : I) → IsAnswered s → ReadsFarEnough left asked given s old new →
+    ReadsFarEnough left asked given status.WriteFault old new
+reads_unwritten {I} left asked given s old new answered reads = record {
+  read_far_enough = λ read kept. reads.read_far_enough (not_read_fault s answered) (not_memory s answered);
+  read_fault_undecided = λ is. absurd (let wrong : ⊥ = cc in wrong);
+  read_no_further = reads.read_no_further;
+  read_to_end = λ is. absurd (let wrong : ⊥ = cc in wrong);
+  usage_reads_nothing = λ is. absurd (let wrong : ⊥ = cc in wrong);
+}
+
+-- Where an answer is given whole.
+
+pub whole_ends : (asked : Option Form) (f : Form) (given : Option Given) (s : Status) (text : Text) (reads writes : Counts) → asked ≡ Some f → Answers asked given s text → EndsAsDue asked given s reads writes
+whole_ends asked f given s text reads writes some answers = record {
+  usage = (λ is. absurd (not_usage s answers.answered is), λ none. absurd (asked_something asked f some none));
+  due = IfSome_then given answers.as_due (λ given answer. is_due (due_status asked given) s answer.ends);
+  complete = IfSome_then given answers.as_due (λ given answer unread unwritten. inl answer.ends);
+  read_fault = λ is. absurd (not_read_fault s answers.answered is);
+  write_fault = λ is. absurd (not_write_fault s answers.answered is);
+}
+
+pub whole_writes : {O : Type 0} (shown : O → Option Text) (asked : Option Form) (given : Option Given) (s : Status) (text : Text) (old new : O) → Answers asked given s text →
+    AppendsWhereTold (shown old) (shown new) text → WritesWhatIsDue shown asked given s old new
+whole_writes {O} shown asked given s text old new answers appended = record {
+  whole_text = IfSome_then given answers.as_due (λ given answer whole. (text, answer.writes, appended));
+  write_fault_front = for_told given (λ given is. absurd (not_write_fault s answers.answered is));
+  usage_writes_nothing = λ is. absurd (not_usage s answers.answered is);
+  read_fault_writes_nothing = λ is. absurd (not_read_fault s answers.answered is);
+  memory_writes_nothing = λ is. absurd (not_memory s answers.answered is);
+}
+
+pub whole_promise : (asked : Option Form) (given : Option Given) (s : Status) (text : Text) (before after : Option Text) → Answers asked given s text → AppendsWhereTold before after text →
+    KeepsThePromise asked given s before after
+whole_promise asked given s text before after answers appended = record {
+  chances_are_counted = λ done. IfSome_then given answers.as_due (λ given answer.
+      two_told (reported asked given) (answer.of_call done) (printed given answer done) (λ all of is. (text, counted all text of is, appended)));
+  own_reviews_change_no_chance = λ done. IfSome_then given answers.as_due (λ given answer.
+      two_told (reported asked given) (answer.of_call done) (printed given answer done) (λ all of is. (text, isolated all text of is, appended)));
+  seats_are_quotas_rounded = λ done. IfSome_then given answers.as_due (λ given answer. IfSome_then (reported asked given) (answer.of_call done) rounded);
+  quotas_are_means = λ done. IfSome_then given answers.as_due (λ given answer. IfSome_then (reported asked given) (answer.of_call done) means);
+  order_of_arrival_changes_nothing = λ done. IfSome_then given answers.as_due (λ given answer. IfSome_then (reported asked given) (answer.of_call done) in_any_order);
+  seal_is_kept = λ done. IfSome_then given answers.as_due (λ given answer. IfSome_then (reported asked given) (answer.of_call done) sealed);
+  all_lines_are_run = λ done. IfSome_then given answers.as_due (λ given answer. all_lines asked given (sym answer.ends ∙ done) (answer.of_call done));
+  assignment_is_valid = λ done. IfSome_then given answers.as_due (λ given answer.
+      two_told (run_of asked given) (due_runs asked given) (run_is_reported asked given (answer.of_call done))
+      (λ run runs call. well_assigned run.0 run.1 (due_status asked given) runs (sym answer.ends ∙ done) call));
+  short_for_want_of_an_assignment = λ short. IfSome_then given answers.as_due (λ given answer.
+      IfSome_then (run_of asked given) (due_runs asked given) (λ run runs. comes_short run.0 run.1 (due_status asked given) runs (sym answer.ends ∙ short)));
+  want_of_an_assignment_is_told = IfSome_then given answers.as_due (λ given answer.
+      IfSome_then (run_of asked given) (due_runs asked given) (λ run runs comes. subst IsShortOrFault (sym answer.ends) (told_short run.0 run.1 (due_status asked given) runs comes)));
+}
+  where
+    printed : (given : Given) → IsAnswerTo asked given s text → s ≡ status.Done → IfSome (reported asked given) (λ all. text ≡ report_of all)
+    printed given answer done = report_is_due asked given text (sym answer.ends ∙ done) answer.writes (answer.of_call done)
 
 -- what the words ask for has a goal
 pub input_goal : (f : Form) → f ≡ form.Input (values_d the_form 0 (goal.Run, tt {0}) f).0
 input_goal (form.Input g) = refl
 
-pub due_told : (words : List Text) (told : Option Text) (g : Goal) (s : Status) (text : List ℕ) → form_of words ≡ Some (form.Input g) → IfSome told (λ input. IsDueAnswer g input s text) →
-    IfSome told (λ input. s ≡ status_of (due words input))
-due_told words told g s text asks answers =
-    IfSome_then told answers (λ input answer. answer.ends ∙ ap status_of (sym (due_by words input (Some (form.Input g)) asks)))
+-- what holds of a form holds of what was asked where that is the form
+pub asked_answers : (asked : Option Form) (f : Form) (input : Option Text) (files : Option Contents) (s : Status) (text : Text) → asked ≡ Some f → Answers (Some f) (told (Some f) input files) s text →
+    Answers asked (told asked input files) s text
+asked_answers asked f input files s text some answers = subst (λ a. Answers a (told a input files) s text) (sym some) answers
 
-pub call_told : (words : List Text) (told : Option Text) (g : Goal) (s : Status) (text : List ℕ) → form_of words ≡ Some (form.Input g) → words ≡ run_words → s ≡ status.Done →
-    IfSome told (λ input. IsDueAnswer g input s text) → IfSome told (λ input. AreOfCall (heard input))
-call_told words told g s text asks run done answers = IfSome_then told answers (λ input answer. answer.of_call (goal_of_run words g run asks) done)
-
-pub short_told : (words : List Text) (told : Option Text) (g h : Goal) (s : Status) (text : List ℕ) → form_of words ≡ Some (form.Input g) → s ≡ status.Short → form_of words ≡ Some (form.Input h) →
-    IfSome told (λ input. IsDueAnswer g input s text) → IfSome told (λ input. ComesShort h (looked_at h (heard input)))
-short_told words told g h s text asks short also answers =
-    IfSome_then told answers (λ input answer. subst (λ g. ComesShort g (looked_at g (heard input))) (one_goal words g h asks also) (comes_short g input s text answer short))
-
-pub shortage_told : (words : List Text) (told : Option Text) (g h : Goal) (s : Status) (text : List ℕ) → form_of words ≡ Some (form.Input g) → form_of words ≡ Some (form.Input h) →
-    IfSome told (λ input. IsDueAnswer g input s text) → IfSome told (λ input. ComesShort h (looked_at h (heard input)) → IsShortOrFault s)
-shortage_told words told g h s text asks also answers =
-    IfSome_then told answers (λ input answer comes. told_short g input s text answer (subst (λ g. ComesShort g (looked_at g (heard input))) (sym (one_goal words g h asks also)) comes))
-
-pub text_told : (words : List Text) (told : Option Text) (g : Goal) (s : Status) (text : List ℕ) → form_of words ≡ Some (form.Input g) → IfSome told (λ input. IsDueAnswer g input s text) →
-    IfSome told (λ input. IsDueText words input text)
-text_told words told g s text asks answers =
-    IfSome_then told answers (λ input answer. subst (λ asked. MatchOption asked (text ≡ []) (λ asked. IsTextOfForm asked input text)) (sym asks) answer.writes)
+pub asked_reads : {I : Type 0} (left : I → Option Text) (asked : Option Form) (f : Form) (input : Option Text) (files : Option Contents) (s t : Status) (old new : I) → asked ≡ Some f → s ≡ t →
+    ReadsFarEnough left (Some f) (told (Some f) input files) s old new → ReadsFarEnough left asked (told asked input files) t old new
+asked_reads {I} left asked f input files s t old new some is reads =
+    subst (λ a. ReadsFarEnough left a (told a input files) t old new) (sym some) (subst (λ s. ReadsFarEnough left (Some f) (told (Some f) input files) s old new) is reads)

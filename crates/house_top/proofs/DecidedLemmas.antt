@@ -7,6 +7,7 @@ use Rattle.house_base.specs.Text.{Text}
 use Rattle.house_model.specs.declared.goal.Goal.{Goal}
 use Rattle.house_model.specs.Heard.{is_over, whole_lines}
 use Rattle.house_model.specs.Runs.{ends_run}
+use Rattle.house_model.specs.Text.{Lines}
 use Rattle.house_top.proofs.EndLemmas.{ends_alike}
 use Rattle.house_top.proofs.FrontLemmas.{over-full, whole-front}
 use Rattle.house_top.proofs.InputLemmas.{front_taken}
@@ -14,28 +15,30 @@ use Rattle.house_top.specs.Hearing.{HasEnded, IsFull}
 use Rattle.house_top.specs.Input.{DecidedWhereTold, IsDecided, TakesWhereTold}
 
 -- a line that ends the run is among the bytes
-line_decides : (g : Goal) (text behind : Text) (house : Standing) → HasEnded g text house → IsDecided g (text ++ behind)
-line_decides g text behind house ended =
+line_decides : (g : Goal) (opening : Lines) (text behind : Text) (house : Standing) → HasEnded g opening text house → IsDecided g opening (text ++ behind)
+line_decides g opening text behind house ended =
     let front = whole-front text behind in
-    let alike = ends_alike g (whole_lines text) front.more ended.lines.looked ended.ends in
-    or_right (is_over (text ++ behind)) (ends_run g (whole_lines (text ++ behind))) (ap (ends_run g) front.parts ∙ alike.ends)
+    let parts : opening ++ whole_lines (text ++ behind) ≡ (opening ++ whole_lines text) ++ front.more =
+    ap (λ ls. opening ++ ls) front.parts ∙ sym (append_assoc opening (whole_lines text) front.more) in
+    let alike = ends_alike g (opening ++ whole_lines text) front.more ended.lines.looked ended.ends in
+    or_right (is_over (text ++ behind)) (ends_run g (opening ++ whole_lines (text ++ behind))) (ap (ends_run g) parts ∙ alike.ends)
 
 -- there are bytes behind as many as an input may have
-limit_decides : (g : Goal) (text behind : Text) → IsFull g text → 0 < length behind → IsDecided g (text ++ behind)
-limit_decides g text behind full some = ap (λ over. over || ends_run g (whole_lines (text ++ behind))) (over-full text behind full.full some)
+limit_decides : (g : Goal) (opening : Lines) (text behind : Text) → IsFull g opening text → 0 < length behind → IsDecided g opening (text ++ behind)
+limit_decides g opening text behind full some = ap (λ over. over || ends_run g (opening ++ whole_lines (text ++ behind))) (over-full text behind full.full some)
 
-decided : (g : Goal) (first last : Option Text) (taken : Text) → TakesWhereTold first last taken → IsDecided g taken → DecidedWhereTold g first last
-decided g None last taken told decides = tt
-decided g (Some input) None taken told decides = absurd told
-decided g (Some input) (Some rest) taken told decides = λ some. subst (IsDecided g) (sym (front_taken input taken rest told)) decides
+decided : (g : Goal) (opening : Lines) (first last : Option Text) (taken : Text) → TakesWhereTold first last taken → IsDecided g opening taken → DecidedWhereTold g opening first last
+decided g opening None last taken told decides = tt
+decided g opening (Some input) None taken told decides = absurd told
+decided g opening (Some input) (Some rest) taken told decides = λ some. subst (IsDecided g opening) (sym (front_taken input taken rest told)) decides
 
 parts_of : (bytes piece front behind : Text) → piece ≡ front ++ behind → bytes ++ piece ≡ (bytes ++ front) ++ behind
 parts_of bytes piece front behind parts = ap (λ p. bytes ++ p) parts ∙ sym (append_assoc bytes front behind)
 
-pub ended_decides : (g : Goal) (first last : Option Text) (bytes piece front behind : Text) (house : Standing) → TakesWhereTold first last (bytes ++ piece) → piece ≡ front ++ behind →
-    HasEnded g (bytes ++ front) house → DecidedWhereTold g first last
-ended_decides g first last bytes piece front behind house taken parts ended =
-    decided g first last (bytes ++ piece) taken (subst (IsDecided g) (sym (parts_of bytes piece front behind parts)) (line_decides g (bytes ++ front) behind house ended))
+pub ended_decides : (g : Goal) (opening : Lines) (first last : Option Text) (bytes piece front behind : Text) (house : Standing) → TakesWhereTold first last (bytes ++ piece) → piece ≡ front ++ behind →
+    HasEnded g opening (bytes ++ front) house → DecidedWhereTold g opening first last
+ended_decides g opening first last bytes piece front behind house taken parts ended =
+    decided g opening first last (bytes ++ piece) taken (subst (IsDecided g opening) (sym (parts_of bytes piece front behind parts)) (line_decides g opening (bytes ++ front) behind house ended))
 
 some_behind : (behind : Text) → behind ≢ [] → 0 < length behind
 some_behind [] h = absurd (h refl)
@@ -43,7 +46,7 @@ some_behind (x ∷ behind) h = some_more x behind where
   some_more : (x : ℕ) (behind : Text) → 0 < length (x ∷ behind)
   some_more x behind = omega arith
 
-pub over_decides : (g : Goal) (first last : Option Text) (bytes piece front behind : Text) → TakesWhereTold first last (bytes ++ piece) → piece ≡ front ++ behind → behind ≢ [] →
-    IsFull g (bytes ++ front) → DecidedWhereTold g first last
-over_decides g first last bytes piece front behind taken parts some full =
-    decided g first last (bytes ++ piece) taken (subst (IsDecided g) (sym (parts_of bytes piece front behind parts)) (limit_decides g (bytes ++ front) behind full (some_behind behind some)))
+pub over_decides : (g : Goal) (opening : Lines) (first last : Option Text) (bytes piece front behind : Text) → TakesWhereTold first last (bytes ++ piece) → piece ≡ front ++ behind → behind ≢ [] →
+    IsFull g opening (bytes ++ front) → DecidedWhereTold g opening first last
+over_decides g opening first last bytes piece front behind taken parts some full =
+    decided g opening first last (bytes ++ piece) taken (subst (IsDecided g opening) (sym (parts_of bytes piece front behind parts)) (limit_decides g opening (bytes ++ front) behind full (some_behind behind some)))

@@ -1,17 +1,19 @@
 -- The line that ends a run, and the lines behind it.
-use Rattle.std.proofs.Common.{◌≡◌, ℕ, ◌+◌, Bool, true, false, cond, ◌&&◌, ◌||◌, [], ◌∷◌, ◌++◌, length, Option, Some, None, refl, sym, ap, ◌∙◌, inl, inr, append-nil}
+use Rattle.std.proofs.Common.{◌≡◌, ℕ, ◌+◌, Bool, true, false, not, cond, ◌&&◌, ◌||◌, [], ◌∷◌, ◌++◌, length, Option, Some, None, refl, sym, ap, ◌∙◌, inl, inr, append-nil}
 use Rattle.std.specs.Prelude.{is_some}
 use Rattle.std.specs.Option.{option_map_or}
 use Rattle.std.specs.List.{list_any}
 use Rattle.std.proofs.lemmas.Bool.{cases_Bool, cond-true, or_right}
+use Rattle.house_base.specs.declared.answer.Reason.TheVariants as reason
+use Rattle.house_base.specs.declared.phase.Phase.TheVariants as phase
 use Rattle.house_core.proofs.EndingLemmas.{in_force_at, stop_none}
 use Rattle.house_base.specs.Text.{Text}
 use Rattle.house_model.specs.declared.goal.Goal.{Goal}
 use Rattle.house_model.specs.declared.goal.Goal.TheVariants as goal
 use Rattle.house_model.specs.declared.verb.Verb.TheVariants as verb
-use Rattle.house_model.specs.Ending.{Halt, Rule, Ended, halted, stop_after, stop_of, in_force_after, in_force, last_ended}
+use Rattle.house_model.specs.Ending.{Halt, Rule, Ended, halted, stop_after, stop_of, in_force_after, in_force, is_drawn, last_ended}
 use Rattle.house_model.specs.Runs.{halt, through_assign, looked_at, settles, last_of, end_of, ends_run, taken}
-use Rattle.house_model.specs.Said.{has}
+use Rattle.house_model.specs.Said.{has, phase_after}
 use Rattle.house_model.specs.Text.{Lines}
 use Rattle.house_model.specs.Verbs.{commands}
 use Rattle.house_top.specs.Hearing.{GoOn}
@@ -187,3 +189,32 @@ ends_alike g lines more all ends = by_stop (stop_of (halt g) lines) refl where
       sym (ap (λ ls. is_some (stop_of (halt g) ls) || (settles g && has verb.Assign lines)) all
       ∙ ap (λ o. is_some o || (settles g && has verb.Assign lines)) stop) ∙ ends in
       alike_by_goal g lines more all stop settled
+
+-- A run whose goal an assignment reaches comes to no draw: it would have an assignment.
+
+drawn_by : (called drawn : Bool) (n : ℕ) → cond (not called) (Ended.Refused n reason.NoCall) (cond (not drawn) (Ended.Refused n reason.Unfinished) Ended.Done) ≡ Ended.Done → drawn ≡ true
+drawn_by true true n h = refl
+drawn_by true false n h = absurd (let wrong : ⊥ = cc in wrong)
+drawn_by false drawn n h = absurd (let wrong : ⊥ = cc in wrong)
+
+assigned_by : (assigned closed drawn : Bool) → is_drawn (cond (not assigned) phase.Opening (cond (not closed) phase.Reviewing (cond (not drawn) phase.Closed phase.Drawn))) ≡ true → assigned ≡ true
+assigned_by true closed drawn h = refl
+assigned_by false closed drawn h = absurd (let wrong : false ≡ true = h in cc)
+
+-- lines that end done have an assignment
+done_assigned : (lines : Lines) → last_ended lines ≡ Ended.Done → has verb.Assign lines ≡ true
+unfolding last_ended phase_after
+done_assigned lines h =
+    assigned_by (has verb.Assign lines) (has verb.Close lines) (has verb.Draw lines || has verb.Lottery lines) (drawn_by (has verb.Call lines) (is_drawn (phase_after lines)) (length lines + 1) h)
+
+last_done : (assigned : Bool) (stop : Option (ℕ × Halt)) (last : Ended) → (last ≡ Ended.Done → assigned ≡ true) → option_map_or (λ s. halted s.0 s.1) stop (cond assigned Ended.Settled last) ≡ Ended.Done → ⊥
+last_done assigned (Some (n, Halt.Refused r)) last assigns h = cc
+last_done assigned (Some (n, Halt.Short)) last assigns h = cc
+last_done true None last assigns h = cc
+last_done false None last assigns h = let wrong : false ≡ true = assigns h in cc
+
+pub never_drawn : (g : Goal) (lines : Lines) → settles g ≡ true → end_of g lines ≡ Ended.Done → ⊥
+unfolding end_of
+never_drawn g lines reaches done =
+    last_done (has verb.Assign lines) (stop_of (halt g) (looked_at g lines)) (last_ended lines) (done_assigned lines)
+    (sym (ap (λ b. option_map_or (λ s. halted s.0 s.1) (stop_of (halt g) (looked_at g lines)) (cond (b && has verb.Assign lines) Ended.Settled (last_ended lines))) reaches) ∙ done)

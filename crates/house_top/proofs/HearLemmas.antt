@@ -26,7 +26,9 @@ use Rattle.house_model.proofs.LateLineLemmas.{before-assign}
 use Rattle.house_top.specs.declared.hearing.Hearing.{Hearing}
 use Rattle.house_top.specs.declared.hearing.Progress.{Progress}
 use Rattle.house_top.specs.declared.hearing.Progress.TheVariants as progress
-use Rattle.house_top.specs.Hearing.{Advances, EndsWith, GoOn, HasEnded, HasHeard, HasLines, HearsPiece, IsCut, IsFull, TakesLine, TellsEnd}
+use Rattle.house_top.specs.declared.hearing.Taken.{Taken}
+use Rattle.house_top.specs.declared.hearing.Taken.TheVariants as taken_line
+use Rattle.house_top.specs.Hearing.{Advances, EndsWith, GoOn, HasEnded, HasHeard, HasLines, HasOpened, HearsPiece, IsCut, IsFull, TakesLine, TellsEnd, progress_of}
 use Rattle.house_top.proofs.CutLemmas.{cut-none, cut-same, cut-more, whole-more, lines-cut, rest-le, used_within, none_begun}
 use Rattle.house_top.proofs.EndLemmas.{ends_by_goal, ends_by_stop, looked-all, looked-more, stopped_before}
 use Rattle.house_top.proofs.LineLemmas.{is_feed}
@@ -34,7 +36,7 @@ use Rattle.house_top.proofs.FrontLemmas.{whole-few, within-from, within-limits}
 use Rattle.house_top.proofs.TellLemmas.{tells_all}
 
 -- no line ends a run
-go_on-none : (g : Goal) → GoOn g []
+pub go_on-none : (g : Goal) → GoOn g []
 unfolding stop_of has
 go_on-none g = record { unstopped = refl; unsettled = none (settles g) } where
   none : (b : Bool) → (b && false) ≡ false
@@ -44,17 +46,20 @@ go_on-none g = record { unstopped = refl; unsettled = none (settles g) } where
 no_lines : whole_lines [] ≡ []
 no_lines = whole_lines_of_part [] (All-nil (λ byte. is_feed byte ≡ false))
 
-pub nothing_heard : (g : Goal) (house : Standing) (cutter : Cutting) → StandsFor g [] house → cutter ≡ fresh →
-    HasHeard g [] (record { goal = g; house = house; cutter = cutter; bytes = 0; lines = 0 })
-nothing_heard g house cutter stands none = record {
-  goal = refl;
-  stands = subst (λ ls. StandsFor g ls house) (sym no_lines) stands;
-  cut = subst (IsCut []) (sym none) cut-none;
-  go_on = subst (GoOn g) (sym no_lines) (go_on-none g);
-  bytes_counted = refl;
-  lines_counted = sym (ap length no_lines);
-  within = within-from [] (omega arith) (omega (arith, ap length (lines_of_none [] refl)));
-}
+pub nothing_heard : (g : Goal) (opening : Lines) (house : Standing) (cutter : Cutting) → HasOpened g opening house → cutter ≡ fresh →
+    HasHeard g opening [] (record { goal = g; house = house; cutter = cutter; bytes = 0; lines = 0 })
+nothing_heard g opening house cutter opened none =
+    let same : opening ++ whole_lines [] ≡ opening = ap (λ ls. opening ++ ls) no_lines ∙ append-nil opening in
+    record {
+      goal = refl;
+      stands = subst (λ ls. StandsFor g ls house) (sym same) opened.stands;
+      few = opened.few;
+      cut = subst (IsCut []) (sym none) cut-none;
+      go_on = subst (GoOn g) (sym same) opened.go_on;
+      bytes_counted = refl;
+      lines_counted = sym (ap length no_lines);
+      within = within-from [] (omega arith) (omega (arith, ap length (lines_of_none [] refl)));
+    }
 
 -- whether an assignment was accepted, by the phase
 pub settled_by_phase : (g : Goal) (lines : Lines) (p : Phase) → p ≡ phase_after lines → (settles g && not (is_before_assignment p)) ≡ (settles g && has verb.Assign lines)
@@ -66,6 +71,11 @@ settled_by_phase g lines p is = ap (λ b. settles g && not b) (ap is_before_assi
 going_unstopped : (stop : Option (ℕ × Halt)) (took answer : Took) → IsStep stop took (step.Going answer) → stop ≡ None
 going_unstopped None took answer h = refl
 going_unstopped (Some at) took answer h = absurd h
+
+-- what became of a line after which the run goes on
+pub line_took : (stop : Option (ℕ × Halt)) (took answer : Took) → IsStep stop took (step.Going answer) → answer ≡ took
+line_took None took answer h = h
+line_took (Some at) took answer h = absurd h
 
 -- a line after which the run goes on
 pub line_goes_on : (g : Goal) (so_far : Lines) (x : Text) (took answer : Took) → GoOn g so_far → IsStep (stop_of (halt g) (so_far ++ x ∷ [])) took (step.Going answer) →
@@ -106,18 +116,18 @@ pub short_stops : (stop : Option (ℕ × Halt)) (took : Took) → IsStep stop to
 short_stops None took h = absurd h
 short_stops (Some at) took h = (at, refl)
 
--- lines within the limits can be counted
-pub countable : (bytes : Text) → is_over bytes ≡ false → length (whole_lines bytes) < 2 ^ 64 - 1
-countable bytes within = omega (arith, whole-few bytes within)
+-- opening lines, and behind them lines within the limits, can be counted
+pub countable : (opening : Lines) (bytes : Text) → length opening + MOST_LINES < 2 ^ 64 - 1 → is_over bytes ≡ false → length (opening ++ whole_lines bytes) < 2 ^ 64 - 1
+countable opening bytes few within = omega (arith, length-append opening (whole_lines bytes), whole-few bytes within)
 
 length_taken : (heard piece : Text) (used : ℕ) → used ≤ length piece → length (heard ++ take used piece) ≡ length heard + used
 length_taken heard piece used within = omega (arith, length-append heard (take used piece), length-take used piece)
 
 -- some bytes more, behind which no line has ended
-pub heard_more : (g : Goal) (heard piece : Text) (old : Hearing) (cutter : Cutting) (used : ℕ) (whole : Bool) → HasHeard g heard old → Feeds old.cutter piece used whole cutter →
+pub heard_more : (g : Goal) (opening : Lines) (heard piece : Text) (old : Hearing) (cutter : Cutting) (used : ℕ) (whole : Bool) → HasHeard g opening heard old → Feeds old.cutter piece used whole cutter →
     ended_line cutter ≡ None → old.bytes + length piece ≤ MOST_BYTES → old.lines < MOST_LINES →
-    HasHeard g (heard ++ take used piece) (record { goal = old.goal; house = old.house; cutter = cutter; bytes = old.bytes + used; lines = old.lines })
-heard_more g heard piece old cutter used whole hears feeds none room few =
+    HasHeard g opening (heard ++ take used piece) (record { goal = old.goal; house = old.house; cutter = cutter; bytes = old.bytes + used; lines = old.lines })
+heard_more g opening heard piece old cutter used whole hears feeds none room few =
     let bytes = heard ++ take used piece in
     let within = used_within old.cutter piece used whole cutter feeds in
     let cut = cut-more heard piece old.cutter cutter used whole hears.cut feeds in
@@ -126,19 +136,20 @@ heard_more g heard piece old cutter used whole hears feeds none room few =
     let count_lines : length (lines bytes) ≡ length (whole_lines bytes) + length (option_to_list (rest_of cutter)) = ap length (lines-cut bytes cutter cut) ∙ length-append (whole_lines bytes) (option_to_list (rest_of cutter)) in
     record {
       goal = hears.goal;
-      stands = subst (λ ls. StandsFor g ls old.house) (sym same) hears.stands;
+      stands = subst (λ ls. StandsFor g (opening ++ ls) old.house) (sym same) hears.stands;
+      few = hears.few;
       cut = cut;
-      go_on = subst (GoOn g) (sym same) hears.go_on;
+      go_on = subst (λ ls. GoOn g (opening ++ ls)) (sym same) hears.go_on;
       bytes_counted = ap (λ n. n + used) hears.bytes_counted ∙ sym count;
       lines_counted = hears.lines_counted ∙ sym (ap length same);
       within = within-from bytes (omega (arith, count, hears.bytes_counted)) (omega (arith, count_lines, ap length same, rest-le (rest_of cutter), hears.lines_counted));
     }
 
 -- a line more has ended
-pub line_heard : (g : Goal) (heard piece : Text) (old : Hearing) (cutter : Cutting) (used : ℕ) (whole : Bool) (line : Text) (p : Progress) (house : Standing) → HasHeard g heard old →
-    Feeds old.cutter piece used whole cutter → ended_line cutter ≡ Some line → old.bytes + length piece ≤ MOST_BYTES → old.lines < MOST_LINES → TakesLine g (whole_lines heard ++ line ∷ []) p house →
-    Advances g (heard ++ take used piece) p (record { goal = old.goal; house = house; cutter = cutter; bytes = old.bytes + used; lines = old.lines + 1 })
-line_heard g heard piece old cutter used whole line p house hears feeds ended room few takes = by_progress p takes
+pub line_heard : (g : Goal) (opening : Lines) (heard piece : Text) (old : Hearing) (cutter : Cutting) (used : ℕ) (whole : Bool) (line : Text) (t : Taken) (house : Standing) → HasHeard g opening heard old →
+    Feeds old.cutter piece used whole cutter → ended_line cutter ≡ Some line → old.bytes + length piece ≤ MOST_BYTES → old.lines < MOST_LINES → TakesLine g (opening ++ whole_lines heard) line t house →
+    Advances g opening (heard ++ take used piece) (progress_of t) (record { goal = old.goal; house = house; cutter = cutter; bytes = old.bytes + used; lines = old.lines + 1 })
+line_heard g opening heard piece old cutter used whole line t house hears feeds ended room few takes = by_line t takes
   where
     bytes : Text
     bytes = heard ++ take used piece
@@ -152,6 +163,9 @@ line_heard g heard piece old cutter used whole line p house hears feeds ended ro
     more : whole_lines (heard ++ take used piece) ≡ whole_lines heard ++ line ∷ []
     more = whole-more heard piece old.cutter cutter used whole hears.cut feeds ∙ ap (λ l. whole_lines heard ++ option_to_list l) ended
 
+    all : opening ++ whole_lines (heard ++ take used piece) ≡ (opening ++ whole_lines heard) ++ line ∷ []
+    all = ap (λ ls. opening ++ ls) more ∙ sym (append_assoc opening (whole_lines heard) (line ∷ []))
+
     count_more : length (whole_lines (heard ++ take used piece)) ≡ length (whole_lines heard) + 1
     count_more = ap length more ∙ length-append (whole_lines heard) (line ∷ [])
 
@@ -161,45 +175,50 @@ line_heard g heard piece old cutter used whole line p house hears feeds ended ro
     within : is_over (heard ++ take used piece) ≡ false
     within = within-from (heard ++ take used piece) (omega (arith, count, hears.bytes_counted, room, used_within old.cutter piece used whole cutter feeds)) (omega (arith, count_lines, count_more, hears.lines_counted, few))
 
-    by_progress : (p : Progress) → TakesLine g (whole_lines heard ++ line ∷ []) p house →
-        Advances g (heard ++ take used piece) p (record { goal = old.goal; house = house; cutter = cutter; bytes = old.bytes + used; lines = old.lines + 1 })
-    by_progress progress.Going takes = record {
+    by_line : (t : Taken) → TakesLine g (opening ++ whole_lines heard) line t house →
+        Advances g opening (heard ++ take used piece) (progress_of t) (record { goal = old.goal; house = house; cutter = cutter; bytes = old.bytes + used; lines = old.lines + 1 })
+    by_line (taken_line.Going took) takes = record {
       goal = hears.goal;
-      stands = subst (λ ls. StandsFor g ls house) (sym more) takes.0;
+      stands = subst (λ ls. StandsFor g ls house) (sym all) takes.0;
+      few = hears.few;
       cut = cut;
-      go_on = subst (GoOn g) (sym more) takes.1;
+      go_on = subst (GoOn g) (sym all) takes.1;
       bytes_counted = ap (λ n. n + used) hears.bytes_counted ∙ sym count;
       lines_counted = ap (λ n. n + 1) hears.lines_counted ∙ sym count_more;
       within = within;
     }
-    by_progress progress.Ended takes =
-        let ends = subst (λ ls. EndsWith g ls house) (sym more) takes in
-        record { lines = record { stands = ends.stands; few = whole-few (heard ++ take used piece) within; looked = ends.looked; clear = ends.clear }; ends = ends.ends; within = within }
-    by_progress progress.Over takes = takes
-    by_progress progress.Memory takes = tt
+    by_line taken_line.Ended takes =
+        let ends = subst (λ ls. EndsWith g ls house) (sym all) takes in
+        record {
+          lines = record { stands = ends.stands; few = countable opening (heard ++ take used piece) hears.few within; looked = ends.looked; clear = ends.clear };
+          ends = ends.ends;
+          within = within;
+        }
+    by_line taken_line.Memory takes = tt
 
 -- where as much has begun, as much was heard
-same_heard : (g : Goal) (bytes : Text) (p : Progress) (h : Hearing) (cutter : Cutting) → h.cutter.begun ≡ cutter.begun → Advances g bytes p h → Advances g bytes p (record h { cutter = cutter })
-same_heard g bytes progress.Going h cutter same hears = record {
+same_heard : (g : Goal) (opening : Lines) (bytes : Text) (p : Progress) (h : Hearing) (cutter : Cutting) → h.cutter.begun ≡ cutter.begun → Advances g opening bytes p h → Advances g opening bytes p (record h { cutter = cutter })
+same_heard g opening bytes progress.Going h cutter same hears = record {
   goal = hears.goal;
   stands = hears.stands;
+  few = hears.few;
   cut = cut-same bytes h.cutter cutter same hears.cut;
   go_on = hears.go_on;
   bytes_counted = hears.bytes_counted;
   lines_counted = hears.lines_counted;
   within = hears.within;
 }
-same_heard g bytes progress.Ended h cutter same hears = hears
-same_heard g bytes progress.Over h cutter same hears = hears
-same_heard g bytes progress.Memory h cutter same hears = tt
+same_heard g opening bytes progress.Ended h cutter same hears = hears
+same_heard g opening bytes progress.Over h cutter same hears = hears
+same_heard g opening bytes progress.Memory h cutter same hears = tt
 
 -- a line more that stands whole in a piece
-pub whole_line_heard : (g : Goal) (heard piece : Text) (old : Hearing) (used : ℕ) (line : Text) (p : Progress) (house : Standing) → HasHeard g heard old →
-    IsWholeLine old.cutter piece used line → old.bytes + length piece ≤ MOST_BYTES → old.lines < MOST_LINES → TakesLine g (whole_lines heard ++ line ∷ []) p house →
-    Advances g (heard ++ take used piece) p (record { goal = old.goal; house = house; cutter = old.cutter; bytes = old.bytes + used; lines = old.lines + 1 })
-whole_line_heard g heard piece old used line p house hears (after, ends, ended, same) room few takes =
-    same_heard g (heard ++ take used piece) p (record { goal = old.goal; house = house; cutter = after; bytes = old.bytes + used; lines = old.lines + 1 }) old.cutter same
-    (line_heard g heard piece old after used true line p house hears ends ended room few takes)
+pub whole_line_heard : (g : Goal) (opening : Lines) (heard piece : Text) (old : Hearing) (used : ℕ) (line : Text) (t : Taken) (house : Standing) → HasHeard g opening heard old →
+    IsWholeLine old.cutter piece used line → old.bytes + length piece ≤ MOST_BYTES → old.lines < MOST_LINES → TakesLine g (opening ++ whole_lines heard) line t house →
+    Advances g opening (heard ++ take used piece) (progress_of t) (record { goal = old.goal; house = house; cutter = old.cutter; bytes = old.bytes + used; lines = old.lines + 1 })
+whole_line_heard g opening heard piece old used line t house hears (after, ends, ended, same) room few takes =
+    same_heard g opening (heard ++ take used piece) (progress_of t) (record { goal = old.goal; house = house; cutter = after; bytes = old.bytes + used; lines = old.lines + 1 }) old.cutter same
+    (line_heard g opening heard piece old after used true line t house hears ends ended room few takes)
 
 pub whole_line_within : (old : Cutting) (piece : Text) (used : ℕ) (line : Text) → IsWholeLine old piece used line → used ≤ length piece
 whole_line_within old piece used line (after, ends, ended, same) = used_within old piece used true after ends
@@ -211,9 +230,9 @@ advanced piece front rest part used most parts is within =
     parts ∙ ap (λ t. front ++ t) (sym (take-append-drop used rest) ∙ ap (λ t. t ++ drop used rest) (sym same)) ∙ sym (append_assoc front (take used part) (drop used rest))
 
 -- an input of which so much was heard has room for no more
-pub full_heard : (g : Goal) (heard : Text) (h : Hearing) → HasHeard g heard h → (MOST_BYTES ≤ h.bytes) ⊎ (MOST_LINES ≤ h.lines) → IsFull g heard
-full_heard g heard h hears (inl bytes) = record { go_on = hears.go_on; within = hears.within; full = inl (omega (arith, bytes, hears.bytes_counted, (within-limits heard hears.within).0)) }
-full_heard g heard h hears (inr lines) = record { go_on = hears.go_on; within = hears.within; full = inr (omega (arith, lines, hears.lines_counted, whole-few heard hears.within)) }
+pub full_heard : (g : Goal) (opening : Lines) (heard : Text) (h : Hearing) → HasHeard g opening heard h → (MOST_BYTES ≤ h.bytes) ⊎ (MOST_LINES ≤ h.lines) → IsFull g opening heard
+full_heard g opening heard h hears (inl bytes) = record { go_on = hears.go_on; within = hears.within; full = inl (omega (arith, bytes, hears.bytes_counted, (within-limits heard hears.within).0)) }
+full_heard g opening heard h hears (inr lines) = record { go_on = hears.go_on; within = hears.within; full = inr (omega (arith, lines, hears.lines_counted, whole-few heard hears.within)) }
 
 -- a text that is not empty
 pub some_rest : (rest : Text) → eqb (length rest) 0 ≡ false → rest ≢ []
@@ -221,41 +240,47 @@ some_rest [] h = λ e. cc
 some_rest (x ∷ rest) h = λ e. cc
 
 -- a part of a piece at which the run does not go on
-pub ended_part : (g : Goal) (heard piece front rest part : Text) (used most : ℕ) (p : Progress) (h : Hearing) → Advances g ((heard ++ front) ++ take used part) p h →
-    piece ≡ front ++ rest → part ≡ take most rest → used ≤ length part → (p ≡ progress.Going → ⊥) → HearsPiece g heard piece p h
-ended_part g heard piece front rest part used most progress.Going h advances parts is within stops = absurd (stops refl)
-ended_part g heard piece front rest part used most progress.Ended h advances parts is within stops =
-    (front ++ take used part, drop used rest, advanced piece front rest part used most parts is within, subst (λ t. HasEnded g t h.house) (append_assoc heard front (take used part)) advances)
-ended_part g heard piece front rest part used most progress.Over h advances parts is within stops = absurd advances
-ended_part g heard piece front rest part used most progress.Memory h advances parts is within stops = tt
+pub ended_part : (g : Goal) (opening : Lines) (heard piece front rest part : Text) (used most : ℕ) (p : Progress) (h : Hearing) → Advances g opening ((heard ++ front) ++ take used part) p h →
+    piece ≡ front ++ rest → part ≡ take most rest → used ≤ length part → (p ≡ progress.Going → ⊥) → HearsPiece g opening heard piece p h
+ended_part g opening heard piece front rest part used most progress.Going h advances parts is within stops = absurd (stops refl)
+ended_part g opening heard piece front rest part used most progress.Ended h advances parts is within stops =
+    (front ++ take used part, drop used rest, advanced piece front rest part used most parts is within, subst (λ t. HasEnded g opening t h.house) (append_assoc heard front (take used part)) advances)
+ended_part g opening heard piece front rest part used most progress.Over h advances parts is within stops = absurd advances
+ended_part g opening heard piece front rest part used most progress.Memory h advances parts is within stops = tt
 
 -- Behind the end of an input.
 
+-- opening lines and all lines of an input can be counted
+all_countable : (opening : Lines) (heard : Text) → length opening + MOST_LINES < 2 ^ 64 - 1 → is_over heard ≡ false → length (opening ++ lines heard) < 2 ^ 64 - 1
+all_countable opening heard few within = omega (arith, length-append opening (lines heard), (within-limits heard within).1)
+
 -- all lines of an input that ends where a line ends
-pub all_heard : (g : Goal) (heard : Text) (h : Hearing) → HasHeard g heard h → rest_of h.cutter ≡ None → HasLines g (lines heard) h.house × TellsEnd g heard [] (lines heard)
-all_heard g heard h hears none =
+pub all_heard : (g : Goal) (opening : Lines) (heard : Text) (h : Hearing) → HasHeard g opening heard h → rest_of h.cutter ≡ None →
+    HasLines g (opening ++ lines heard) h.house × TellsEnd g opening heard [] (opening ++ lines heard)
+all_heard g opening heard h hears none =
     let same : lines heard ≡ whole_lines heard = lines-cut heard h.cutter hears.cut ∙ ap (λ l. whole_lines heard ++ option_to_list l) none ∙ append-nil (whole_lines heard) in (
       record {
-        stands = subst (λ ls. StandsFor g ls h.house) (sym same) hears.stands;
-        few = (within-limits heard hears.within).1;
-        looked = subst (λ ls. looked_at g ls ≡ ls) (sym same) (looked-all g (whole_lines heard) hears.go_on.unsettled);
-        clear = inl (ap (stop_of (halt g)) same ∙ hears.go_on.unstopped);
+        stands = subst (λ ls. StandsFor g (opening ++ ls) h.house) (sym same) hears.stands;
+        few = all_countable opening heard hears.few hears.within;
+        looked = subst (λ ls. looked_at g (opening ++ ls) ≡ opening ++ ls) (sym same) (looked-all g (opening ++ whole_lines heard) hears.go_on.unsettled);
+        clear = inl (ap (λ ls. stop_of (halt g) (opening ++ ls)) same ∙ hears.go_on.unstopped);
       },
-      tells_all g heard hears.within,
+      tells_all g opening heard hears.within,
     )
 
 -- with a last line that no line feed ends
-pub last_heard : (g : Goal) (heard line : Text) (h : Hearing) (p : Progress) (house : Standing) → HasHeard g heard h → rest_of h.cutter ≡ Some line → TakesLine g (whole_lines heard ++ line ∷ []) p house →
-    p ≢ progress.Memory → HasLines g (lines heard) house × TellsEnd g heard [] (lines heard)
-last_heard g heard line h p house hears some takes kept =
-    let same : lines heard ≡ whole_lines heard ++ line ∷ [] = lines-cut heard h.cutter hears.cut ∙ ap (λ l. whole_lines heard ++ option_to_list l) some in
-    (subst (λ ls. HasLines g ls house) (sym same) (by_progress p takes kept), tells_all g heard hears.within)
+pub last_heard : (g : Goal) (opening : Lines) (heard line : Text) (h : Hearing) (t : Taken) (house : Standing) → HasHeard g opening heard h → rest_of h.cutter ≡ Some line →
+    TakesLine g (opening ++ whole_lines heard) line t house → t ≢ taken_line.Memory → HasLines g (opening ++ lines heard) house × TellsEnd g opening heard [] (opening ++ lines heard)
+last_heard g opening heard line h t house hears some takes kept =
+    (subst (λ ls. HasLines g ls house) (sym same) (by_line t takes kept), tells_all g opening heard hears.within)
   where
-    few : length (whole_lines heard ++ line ∷ []) ≤ MOST_LINES
-    few = omega (arith, ap length (lines-cut heard h.cutter hears.cut ∙ ap (λ l. whole_lines heard ++ option_to_list l) some), (within-limits heard hears.within).1)
+    same : opening ++ lines heard ≡ (opening ++ whole_lines heard) ++ line ∷ []
+    same = ap (λ ls. opening ++ ls) (lines-cut heard h.cutter hears.cut ∙ ap (λ l. whole_lines heard ++ option_to_list l) some) ∙ sym (append_assoc opening (whole_lines heard) (line ∷ []))
 
-    by_progress : (p : Progress) → TakesLine g (whole_lines heard ++ line ∷ []) p house → p ≢ progress.Memory → HasLines g (whole_lines heard ++ line ∷ []) house
-    by_progress progress.Going takes kept = record { stands = takes.0; few = few; looked = looked-all g (whole_lines heard ++ line ∷ []) takes.1.unsettled; clear = inl takes.1.unstopped }
-    by_progress progress.Ended takes kept = record { stands = takes.stands; few = few; looked = takes.looked; clear = takes.clear }
-    by_progress progress.Over takes kept = absurd takes
-    by_progress progress.Memory takes kept = absurd (kept refl)
+    few : length ((opening ++ whole_lines heard) ++ line ∷ []) < 2 ^ 64 - 1
+    few = subst (λ ls. length ls < 2 ^ 64 - 1) same (all_countable opening heard hears.few hears.within)
+
+    by_line : (t : Taken) → TakesLine g (opening ++ whole_lines heard) line t house → t ≢ taken_line.Memory → HasLines g ((opening ++ whole_lines heard) ++ line ∷ []) house
+    by_line (taken_line.Going took) takes kept = record { stands = takes.0; few = few; looked = looked-all g ((opening ++ whole_lines heard) ++ line ∷ []) takes.1.unsettled; clear = inl takes.1.unstopped }
+    by_line taken_line.Ended takes kept = record { stands = takes.stands; few = few; looked = takes.looked; clear = takes.clear }
+    by_line taken_line.Memory takes kept = absurd (kept refl)

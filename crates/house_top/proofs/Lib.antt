@@ -9,3 +9,4 @@ pub mod InputLemmas
 pub mod LineLemmas
 pub mod PairLemmas
 pub mod TellLemmas
+pub mod ReadLemmas

@@ -1,4 +1,8 @@
-pub mod Call
+pub mod Words
+pub mod Given
+pub mod Due
+pub mod Answer
 pub mod Exit
 pub mod Hearing
 pub mod Input
+pub mod Promise

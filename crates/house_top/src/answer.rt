@@ -1,25 +1,25 @@
 //! The answer to what a run has heard.
 
-ghost use Rattle.std.specs.Prelude.{◌≡◌, ◌++◌, ◌∷◌, [], ◌&&◌, true, codes, IfOk, OnOk};
-ghost use Rattle.house_core.specs.House.{StandsFor, fell_short};
-ghost use Rattle.house_model.specs.Due.{IsShortText, done_text};
-ghost use Rattle.house_model.specs.Ending.{in_force};
+ghost use Rattle.std.specs.Prelude.{◌≡◌, ◌++◌, ◌∷◌, [], length, codes, IfOk};
+ghost use Rattle.cut_gap.specs.Cut.{marked};
+ghost use Rattle.house_base.specs.Setting.{size};
+ghost use Rattle.peer_selection.specs.Shortage.{IsShort, assignment_demand};
+ghost use Rattle.house_core.specs.Standing.{HoldsPairs};
 ghost use Rattle.house_model.specs.Report.{line_of, outcome_text, refused_words};
-ghost use Rattle.house_model.specs.Runs.{halt, settles};
-ghost use Rattle.house_model.specs.Said.{has, run_pairs, setting};
+ghost use Rattle.peer_selection.specs.Profile.{Pairs};
 ghost use Rattle.house_model.specs.Text.{Lines};
-ghost use Rattle.house_model.specs.Texts.{pairs_text};
-ghost use Rattle.house_model.specs.declared.goal.Goal.{Goal};
-ghost use Rattle.house_model.specs.declared.verb.Verb.TheVariants as verb;
-ghost use Rattle.house_top.specs.Call.{IsEndAnswer};
-ghost use Rattle.house_top.specs.Hearing.{HasLines};
+ghost use Rattle.house_model.specs.Texts.{pairs_text, short_text};
+ghost use Rattle.house_top.specs.Answer.{IsEndAnswer, IsHeardAnswer};
+ghost use Rattle.house_top.specs.Hearing.{HasLines, HasSomeLines};
 
-use crate::hearing::is_settled;
+use crate::input::Heard;
 use crate::status::Status;
-use house_base::{Memory, Reason};
-use house_core::{EndFault, House};
+use cut_gap::Cut;
+use house_base::{Memory, Plan, Reason};
+use house_core::{Ending, House};
 use house_model::Goal;
 use report_text::{Outcome, write_pairs, write_refused, write_report, write_short};
+use review_desk::Desk;
 use std::alloc::Global;
 
 /// How a call ends, with the text that it writes.
@@ -29,60 +29,58 @@ pub struct Answer {
     pub text: Vec<u8>,
 }
 
+/// The answer to what was heard of an input.
+pub fn answer_heard(alloc: Global, goal: Goal, heard: &Heard) -> Result<Answer, Memory>
+    requires { HasSomeLines goal heard.now }
+    ensures { IfOk result (λ answer. IsHeardAnswer goal heard.now answer.status answer.text.items) }
+{
+    match heard {
+        Heard::Lines(house) => answer_of(alloc, goal, house),
+        Heard::TooLong => too_long(alloc),
+    }
+}
+
 /// The answer of a run that is at its end.
-pub fn answer_of(alloc: Global, goal: Goal, house: &House) -> Result<Answer, Memory>
+fn answer_of(alloc: Global, goal: Goal, house: &House) -> Result<Answer, Memory>
     requires { (lines : Lines) × HasLines goal lines house.now }
     ensures { (lines : Lines) → HasLines goal lines house.now →
         IfOk result (λ answer. IsEndAnswer goal lines answer.status answer.text.items) }
 {
-    if is_settled(goal, house) {
-        return settled(alloc, goal, house);
-    }
-    match house.end() {
-        Ok(outcome) => reported(alloc, &outcome),
-        Err(EndFault::Refused(line, reason)) => refused(alloc, line, reason),
-        Err(EndFault::Short) => short(alloc, house),
-        Err(EndFault::Memory) => Err(Memory),
+    match house.ending() {
+        Ending::Settled(plan, Some(desk)) => assigned(alloc, plan, desk),
+        Ending::Settled(_, None) => feasible(alloc),
+        Ending::Done(outcome) => reported(alloc, &outcome),
+        Ending::Refused(line, reason) => refused(alloc, line, reason),
+        Ending::Short(plan, cut) => short(alloc, plan, cut),
+        Ending::Memory => Err(Memory),
     }
 }
 
-/// The answer of a run that has reached the goal with its assignment.
-fn settled(alloc: Global, goal: Goal, house: &House) -> Result<Answer, Memory>
-    requires { (lines : Lines) × StandsFor goal lines house.now
-        × ((settles goal && has verb.Assign (in_force (halt goal) lines)) ≡ true) }
+/// The answer with the pairs of an assignment.
+fn assigned(alloc: Global, plan: &Plan, desk: &Desk) -> Result<Answer, Memory>
+    requires { desk.now.pairs.side ≡ size plan.now }
     ensures status { IfOk result (λ answer. answer.status ≡ Status.Done) }
-    ensures text { (lines : Lines) → StandsFor goal lines house.now →
-        (settles goal && has verb.Assign (in_force (halt goal) lines)) ≡ true →
-        IfOk result (λ answer. answer.text.items ≡ done_text goal (in_force (halt goal) lines)) }
+    ensures text { (pairs : Pairs) → HoldsPairs plan.now pairs desk.now.pairs →
+        IfOk result (λ answer. answer.text.items ≡ pairs_text plan.now pairs) }
 {
-    let text = match goal {
-        Goal::Pairs => pairs(alloc, house)?,
-        _ => b"feasible\n".to_vec(alloc)?,
-    };
+    let mut text = Vec::with_capacity(alloc, plan.count() as usize)?;
+    write_pairs(alloc, plan, desk.grid(), &mut text)?;
     Ok(Answer {
         status: Status::Done,
         text,
     })
 }
 
-/// The text of the assignment of a run for it.
-fn pairs(alloc: Global, house: &House) -> Result<Vec<u8>, Memory>
-    requires { (lines : Lines) × StandsFor Goal.Pairs lines house.now
-        × (has verb.Assign (in_force (halt Goal.Pairs) lines) ≡ true) }
-    ensures { (lines : Lines) → StandsFor Goal.Pairs lines house.now →
-        has verb.Assign (in_force (halt Goal.Pairs) lines) ≡ true →
-        IfOk result (λ text. text.items ≡ pairs_text (setting (in_force (halt Goal.Pairs) lines))
-        (run_pairs (in_force (halt Goal.Pairs) lines))) }
+/// The answer where there is an assignment, and no more was asked.
+#[tactic(auto, unfolding(house_model::specs::Report::line_of))]
+fn feasible(alloc: Global) -> Result<Answer, Memory>
+    ensures status { IfOk result (λ answer. answer.status ≡ Status.Done) }
+    ensures text { IfOk result (λ answer. answer.text.items ≡ line_of (codes "feasible" ∷ [])) }
 {
-    let Some(plan) = house.plan() else {
-        unreachable!();
-    };
-    let Some(desk) = house.desk() else {
-        unreachable!();
-    };
-    let mut text = Vec::with_capacity(alloc, plan.count() as usize)?;
-    write_pairs(alloc, plan, desk.grid(), &mut text)?;
-    Ok(text)
+    Ok(Answer {
+        status: Status::Done,
+        text: b"feasible\n".to_vec(alloc)?,
+    })
 }
 
 /// The answer with the report of an outcome.
@@ -111,19 +109,15 @@ fn refused(alloc: Global, line: u64, reason: Reason) -> Result<Answer, Memory>
     })
 }
 
-/// The answer of a run that has ended for the want of a valid assignment.
-fn short(alloc: Global, house: &House) -> Result<Answer, Memory>
-    requires { (g : Goal) × (lines : Lines) × StandsFor g lines house.now × (fell_short house.now ≡ true) }
+/// The answer of a run that has ended for the want of a valid assignment, which a cut shows.
+fn short(alloc: Global, plan: &Plan, cut: &Cut) -> Result<Answer, Memory>
+    requires reviewers { length cut.now.reviewers ≡ size plan.now }
+    requires proposals { length cut.now.proposals ≡ size plan.now }
+    requires short { IsShort (assignment_demand plan.now) (marked cut.now.reviewers) (marked cut.now.proposals) }
     ensures status { IfOk result (λ answer. answer.status ≡ Status.Short) }
-    ensures text { (g : Goal) (lines : Lines) → StandsFor g lines house.now →
-        IfOk result (λ answer. IsShortText answer.text.items (in_force (halt g) lines)) }
+    ensures text { IfOk result (λ answer. answer.text.items ≡
+        short_text plan.now (marked cut.now.reviewers) (marked cut.now.proposals)) }
 {
-    let Some(plan) = house.plan() else {
-        unreachable!();
-    };
-    let Some(cut) = house.shortage() else {
-        unreachable!();
-    };
     let mut text = Vec::new(alloc);
     write_short(alloc, plan, cut, &mut text)?;
     Ok(Answer {
@@ -134,7 +128,7 @@ fn short(alloc: Global, house: &House) -> Result<Answer, Memory>
 
 /// The answer to an input that is over its limits.
 #[tactic(auto, unfolding(house_model::specs::Report::line_of))]
-pub fn too_long(alloc: Global) -> Result<Answer, Memory>
+fn too_long(alloc: Global) -> Result<Answer, Memory>
     ensures status { IfOk result (λ answer. answer.status ≡ Status.TooLong) }
     ensures text { IfOk result (λ answer. answer.text.items ≡ line_of (codes "too-long" ∷ [])) }
 {

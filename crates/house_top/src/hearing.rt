@@ -1,7 +1,7 @@
 //! A run that hears its input in pieces.
 
 use command_text::Cutter;
-use house_base::{Memory, Phase};
+use house_base::{Memory, Phase, Took};
 use house_core::{House, Step};
 use house_model::Goal;
 use house_model::limits::{MOST_BYTES, MOST_LINES};
@@ -20,32 +20,59 @@ pub enum Progress {
     Memory,
 }
 
+/// What a line of a run has come to.
+#[derive(Clone, Copy, Debug, PartialEq, Eq)]
+pub enum Taken {
+    /// The run goes on, and this became of the line.
+    Going(Took),
+    /// The line has ended the run.
+    Ended,
+    /// No memory was left.
+    Memory,
+}
+
+impl Taken {
+    ghost use Rattle.std.specs.Prelude.{◌≡◌};
+    ghost use Rattle.house_top.specs.Hearing.{progress_of};
+
+    /// How far the run has come with the line.
+    fn progress(self) -> Progress
+        ensures { result ≡ progress_of self }
+    {
+        match self {
+            Taken::Going(_) => Progress::Going,
+            Taken::Ended => Progress::Ended,
+            Taken::Memory => Progress::Memory,
+        }
+    }
+}
+
 /// A run, and what it has heard of its input. No line is kept but the one that has begun.
 #[derive(Drop)]
 pub struct Hearing {
     pub goal: Goal,
     pub house: House,
     pub cutter: Cutter,
-    /// How many bytes were heard.
+    /// How many bytes of the input were heard.
     pub bytes: usize,
-    /// How many lines have ended.
+    /// How many lines of the input have ended.
     pub lines: usize,
 }
 
 impl Hearing {
     ghost use Rattle.std.specs.Prelude.{◌≡◌, ◌≢◌, ℕ, ◌+◌, ◌<◌, ◌≤◌, ◌++◌, [], List, length, take, IfOk};
-    ghost use Rattle.house_model.specs.Text.{lines};
+    ghost use Rattle.house_model.specs.Text.{Lines, lines};
     ghost use Rattle.house_model.specs.declared.goal.Goal.{Goal};
     ghost use Rattle.house_model.specs.declared.limits.TheConstants.{MOST_BYTES, MOST_LINES};
-    ghost use Rattle.house_top.specs.Hearing.{Advances, HasHeard, HasLines, HearsPiece, TellsEnd};
+    ghost use Rattle.house_top.specs.Hearing.{Advances, HasHeard, HasLines, HasOpened, HearsPiece, TellsEnd};
 
-    /// A run that has heard nothing.
-    pub fn new(alloc: Global, goal: Goal) -> Hearing
-        ensures { HasHeard goal [] result }
+    /// A run that has taken its opening lines, and has heard nothing of its input.
+    pub fn new(alloc: Global, goal: Goal, house: House) -> Hearing
+        ensures { (opening : Lines) → HasOpened goal opening house → HasHeard goal opening [] result }
     {
         Hearing {
             goal,
-            house: House::new(alloc, goal),
+            house,
             cutter: Cutter::new(alloc),
             bytes: 0,
             lines: 0,
@@ -54,8 +81,8 @@ impl Hearing {
 
     /// Hears a piece of the input, line by line, up to one that ends the run or to the end of the limits.
     pub fn hear(&mut self, piece: &[u8]) -> Progress
-        ensures { (g : Goal) (heard : List ℕ) → HasHeard g heard self.old →
-            HearsPiece g heard piece.now result self.new }
+        ensures { (g : Goal) (opening : Lines) (heard : List ℕ) → HasHeard g opening heard self.old →
+            HearsPiece g opening heard piece.now result self.new }
     {
         let mut rest = piece;
         while !rest.is_empty() {
@@ -78,13 +105,13 @@ impl Hearing {
         requires lines { self.old.lines < MOST_LINES }
         ensures used { result.0 ≤ length piece.now }
         ensures some { 0 < length piece.now → result.1 ≡ Progress.Going → 0 < result.0 }
-        ensures advances { (g : Goal) (heard : List ℕ) → HasHeard g heard self.old →
-            Advances g (heard ++ take result.0 piece.now) result.1 self.new }
+        ensures advances { (g : Goal) (opening : Lines) (heard : List ℕ) → HasHeard g opening heard self.old →
+            Advances g opening (heard ++ take result.0 piece.now) result.1 self.new }
     {
         if let Some((line, used)) = self.cutter.whole_line(piece) {
             self.bytes += used;
             self.lines += 1;
-            return (used, take_line(self.goal, &mut self.house, line));
+            return (used, take_line(self.goal, &mut self.house, line).progress());
         }
         let Ok(fed) = self.cutter.feed(piece) else {
             return (0, Progress::Memory);
@@ -94,13 +121,17 @@ impl Hearing {
             return (fed.used, Progress::Going);
         };
         self.lines += 1;
-        (fed.used, take_line(self.goal, &mut self.house, line))
+        (
+            fed.used,
+            take_line(self.goal, &mut self.house, line).progress(),
+        )
     }
 
     /// The run at the end of the input, whose last line no line feed need end.
     pub fn finish(self) -> Result<House, Memory>
-        ensures { (g : Goal) (heard : List ℕ) → HasHeard g heard self →
-            IfOk result (λ house. HasLines g (lines heard) house × TellsEnd g heard [] (lines heard)) }
+        ensures { (g : Goal) (opening : Lines) (heard : List ℕ) → HasHeard g opening heard self →
+            IfOk result (λ house. HasLines g (opening ++ lines heard) house
+            × TellsEnd g opening heard [] (opening ++ lines heard)) }
     {
         let Hearing {
             goal,
@@ -111,7 +142,7 @@ impl Hearing {
         } = self;
         match cutter.rest() {
             Some(line) => match take_line(goal, &mut house, line) {
-                Progress::Memory => Err(Memory),
+                Taken::Memory => Err(Memory),
                 _ => Ok(house),
             },
             None => Ok(house),
@@ -119,7 +150,7 @@ impl Hearing {
     }
 }
 
-ghost use Rattle.std.specs.Prelude.{◌≡◌, ◌≢◌, ◌^◌, ◌-◌, ◌<◌, ◌⊎◌, ◌&&◌, ◌++◌, ◌∷◌, [], false, length};
+ghost use Rattle.std.specs.Prelude.{◌≡◌, ◌^◌, ◌-◌, ◌<◌, ◌&&◌, length};
 ghost use Rattle.house_core.specs.House.{StandsFor};
 ghost use Rattle.house_model.specs.Ending.{in_force};
 ghost use Rattle.house_model.specs.Reviews.{is_before_assignment};
@@ -130,29 +161,28 @@ ghost use Rattle.house_model.specs.declared.verb.Verb.TheVariants as verb;
 ghost use Rattle.house_top.specs.Hearing.{GoOn, TakesLine};
 
 /// Gives a house its next line.
-fn take_line(goal: Goal, house: &mut House, line: &[u8]) -> Progress
+fn take_line(goal: Goal, house: &mut House, line: &[u8]) -> Taken
     ensures { (lines : Lines) → StandsFor goal lines house.old → GoOn goal lines → length lines < 2 ^ 64 - 1 →
-        TakesLine goal (lines ++ line.now ∷ []) result house.new }
+        TakesLine goal lines line.now result house.new }
 {
     match house.line(line) {
-        Step::Going(_) => {
+        Step::Going(took) => {
             if is_settled(goal, house) {
-                Progress::Ended
+                Taken::Ended
             } else {
-                Progress::Going
+                Taken::Going(took)
             }
         }
-        Step::Refused(_, _) => Progress::Ended,
-        Step::Short => Progress::Ended,
-        Step::Memory => Progress::Memory,
+        Step::Refused(_, _) => Taken::Ended,
+        Step::Short => Taken::Ended,
+        Step::Memory => Taken::Memory,
     }
 }
 
 /// Whether an accepted assignment has reached the goal.
-pub fn is_settled(goal: Goal, house: &House) -> bool
-    ensures value { (lines : Lines) → StandsFor goal lines house.now →
+fn is_settled(goal: Goal, house: &House) -> bool
+    ensures { (lines : Lines) → StandsFor goal lines house.now →
         result ≡ (settles goal && has verb.Assign (in_force (halt goal) lines)) }
-    ensures otherwise { result ≡ false → (goal ≡ Goal.Run) ⊎ (house.now.state.phase ≡ Phase.Opening) }
 {
     settles(goal) && !is_opening(house.phase())
 }

@@ -2,8 +2,9 @@
 
 ghost use Rattle.std.specs.Prelude.{◌≡◌, ◌≤◌, IfOk, OnOk, IsErrOf, vec_len};
 ghost use Rattle.house_io.specs.Faults.{Rose};
-ghost use Rattle.house_top.specs.Hearing.{HearsWhereTold};
-ghost use Rattle.house_top.specs.Input.{DecidedWhereTold, UndecidedWhereTold};
+ghost use Rattle.house_model.specs.Text.{Lines};
+ghost use Rattle.house_top.specs.Hearing.{HasOpened, HearsWhereTold};
+ghost use Rattle.house_top.specs.Input.{DecidedWhereTold, NoFurtherWhereTold, UndecidedWhereTold};
 
 use crate::hearing::{Hearing, Progress};
 use house_base::Memory;
@@ -55,16 +56,26 @@ pub enum Heard {
     TooLong,
 }
 
-/// Hears an input in pieces, up to the line that ends the run, to the end of the limits or to its own end.
-pub fn hear_input<I: Source>(alloc: Global, goal: Goal, input: &mut I) -> Result<Heard, InputFault>
-    ensures heard { IfOk result (λ heard. HearsWhereTold goal (I.left input.old) (I.left input.new) heard) }
-    ensures decided { OnOk result (DecidedWhereTold goal (I.left input.old) (I.left input.new)) }
+/// Hears an input in pieces, in a run that has taken its opening lines: up to the line that ends the run, to the end of
+/// the limits or to its own end.
+pub fn hear_input<I: Source>(
+    alloc: Global,
+    goal: Goal,
+    house: House,
+    input: &mut I,
+) -> Result<Heard, InputFault>
+    requires { (opening : Lines) × HasOpened goal opening house }
+    ensures heard { (opening : Lines) → HasOpened goal opening house →
+        IfOk result (λ heard. HearsWhereTold goal opening (I.left input.old) (I.left input.new) heard) }
+    ensures decided { (opening : Lines) → HasOpened goal opening house →
+        OnOk result (DecidedWhereTold goal opening (I.left input.old) (I.left input.new)) }
     ensures failed { IsErrOf result InputFault.Failed → Rose (I.faults input.old) (I.faults input.new) }
-    ensures undecided { IsErrOf result InputFault.Failed →
-        UndecidedWhereTold goal (I.left input.old) (I.left input.new) }
-    ensures never_falls { I.faults input.old ≤ I.faults input.new }
+    ensures undecided { (opening : Lines) → HasOpened goal opening house → IsErrOf result InputFault.Failed →
+        UndecidedWhereTold goal opening (I.left input.old) (I.left input.new) }
+    ensures no_further { (opening : Lines) → HasOpened goal opening house →
+        NoFurtherWhereTold goal opening (I.left input.old) (I.left input.new) }
 {
-    let mut hearing = Hearing::new(alloc, goal);
+    let mut hearing = Hearing::new(alloc, goal, house);
     let mut piece = zeros(alloc, PIECE)?;
     let buffer = piece.as_mut_slice();
     'pieces: loop {

@@ -4,14 +4,16 @@
 
 mod answer;
 mod call;
+mod form;
+mod forms;
 mod hearing;
 mod input;
 mod output;
-mod run;
 mod status;
 #[cfg(test)]
 mod tests;
 mod words;
 
 pub use call::house;
+pub use form::Form;
 pub use status::Status;

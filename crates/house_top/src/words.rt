@@ -1,13 +1,13 @@
 //! The words of a call of the program.
 
 ghost use Rattle.std.specs.Prelude.{◌≡◌, ◌∷◌, []};
-ghost use Rattle.house_model.specs.Due.{are_words, form_of};
-ghost use Rattle.house_top.specs.Call.{texts};
+ghost use Rattle.house_top.specs.Words.{are_words, form_of, texts};
 
-use house_model::{Form, Goal};
+use crate::form::Form;
+use house_model::Goal;
 
 /// What the words ask for. None where they are of no form.
-#[tactic(auto, unfolding(house_model::specs::Due::form_of))]
+#[tactic(auto, unfolding(crate::specs::Words::form_of))]
 pub fn form_of(words: &Vec<String>) -> Option<Form>
     ensures { result ≡ form_of (texts words.now.items) }
 {

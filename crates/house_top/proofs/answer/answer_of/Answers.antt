@@ -1,41 +1,46 @@
-use Rattle.std.proofs.Common.{Err, sym, ◌∙◌, subst}
-use Rattle.house_core.specs.Ends.{EndsAs}
-use Rattle.house_core.specs.declared.step.EndFault.{EndFault}
-use Rattle.house_model.specs.Ending.{ended}
-use Rattle.house_model.specs.Runs.{halt}
-use Rattle.house_top.proofs.AnswerLemmas.{both, has_fallen_short, refused_answer, reported_answer, settled_answer, short_answer, countable_lines}
+use Rattle.std.proofs.Common.{Some, refl, sym, subst}
+use Rattle.house_core.specs.declared.step.Ending.TheVariants as ending
+use Rattle.house_base.specs.Setting.{Setting}
+use Rattle.house_core.specs.Ends.{IsEnding}
+use Rattle.house_core.specs.Standing.{HoldsPairs}
+use Rattle.house_model.specs.Ending.{Ended, in_force}
+use Rattle.house_model.specs.Runs.{end_of, halt}
+use Rattle.house_model.specs.Said.{run_pairs}
+use Rattle.house_top.proofs.AnswerLemmas.{assigned_answer, both, reported_answer, short_answer, told_end}
 use Rattle.house_top.proofs.answer.answer_of.Goals as goal
 
-pub returns-then-is_settled : goal.returns-then-is_settled
-returns-then-is_settled c = λ lines has_lines.
-    let settled = sym (c.is_settled.ensures.value lines has_lines.stands) ∙ c.if-is_settled.true in
-    both c.settled.result c.settled.ensures.status (c.settled.ensures.text lines has_lines.stands settled)
-    (λ answer status text. settled_answer c.args.goal lines c.args.house.now answer.status answer.text.items has_lines settled status text)
-
-pub short-requires : goal.short-requires
-short-requires c =
-    let lines = c.requires.0 in
-    let has_lines = c.requires.1 in
-    let ends = subst (λ (e : EndFault). EndsAs (ended (halt c.args.goal) lines) lines (Err e)) c.in-Err-Short.field-0-is (c.in-Err-Short.ensures.ends c.args.goal lines has_lines.stands (countable_lines lines has_lines.few)) in
-    (c.args.goal, lines, has_lines.stands, has_fallen_short c.args.goal lines c.args.house.now has_lines.stands ends)
-
-pub returns-in-Ok : goal.returns-in-Ok
-returns-in-Ok c = λ lines has_lines.
-    let unsettled = sym (c.is_settled.ensures.value lines has_lines.stands) ∙ c.if-is_settled.false in
-    let ends = c.in-Ok.ensures.ends c.args.goal lines has_lines.stands (countable_lines lines has_lines.few) in
+pub returns-in-Done : goal.returns-in-Done
+returns-in-Done c = λ lines has_lines.
+    let g = c.args.goal in
+    let said = in_force (halt g) lines in
+    let answer = ending.Done c.in-Done.outcome in
+    let ends = c.in-Done.ensures.ends g lines has_lines.stands has_lines.few in
+    let done = told_end (end_of g lines) Ended.Done g said answer ends refl in
+    let outcome = subst (λ (e : Ended). IsEnding e g said answer) done ends in
     both c.reported.result c.reported.ensures.status c.reported.ensures.text
-    (λ answer status text. reported_answer c.args.goal lines c.args.house.now answer.status answer.text.items c.in-Ok.outcome has_lines unsettled ends status text)
+    (λ answer status text. reported_answer g lines answer.status answer.text.items c.in-Done.outcome has_lines.looked done outcome status text)
 
-pub returns-in-Err-Refused : goal.returns-in-Err-Refused
-returns-in-Err-Refused c = λ lines has_lines.
-    let unsettled = sym (c.is_settled.ensures.value lines has_lines.stands) ∙ c.if-is_settled.false in
-    let ends = subst (λ (e : EndFault). EndsAs (ended (halt c.args.goal) lines) lines (Err e)) c.in-Err-Refused.field-0-is (c.in-Err-Refused.ensures.ends c.args.goal lines has_lines.stands (countable_lines lines has_lines.few)) in
-    both c.refused.result c.refused.ensures.status c.refused.ensures.text
-    (λ answer status text. refused_answer c.args.goal lines c.args.house.now answer.status answer.text.items c.in-Err-Refused.line c.in-Err-Refused.reason has_lines unsettled ends status text)
+pub returns-in-Short : goal.returns-in-Short
+returns-in-Short c = λ lines has_lines.
+    let g = c.args.goal in
+    let said = in_force (halt g) lines in
+    let answer = ending.Short c.in-Short.plan c.in-Short.cut in
+    let ends = c.in-Short.ensures.ends g lines has_lines.stands has_lines.few in
+    let short = told_end (end_of g lines) Ended.Short g said answer ends refl in
+    let shown = subst (λ (e : Ended). IsEnding e g said answer) short ends in
+    both c.short.result c.short.ensures.status c.short.ensures.text
+    (λ answer status text. short_answer g lines answer.status answer.text.items c.in-Short.plan.now c.in-Short.cut.now has_lines.looked short shown.0 shown.1 status text)
 
-pub returns-in-Err-Short : goal.returns-in-Err-Short
-returns-in-Err-Short c = λ lines has_lines.
-    let unsettled = sym (c.is_settled.ensures.value lines has_lines.stands) ∙ c.if-is_settled.false in
-    let ends = subst (λ (e : EndFault). EndsAs (ended (halt c.args.goal) lines) lines (Err e)) c.in-Err-Short.field-0-is (c.in-Err-Short.ensures.ends c.args.goal lines has_lines.stands (countable_lines lines has_lines.few)) in
-    both c.short.result c.short.ensures.status (c.short.ensures.text c.args.goal lines has_lines.stands)
-    (λ answer status text. short_answer c.args.goal lines c.args.house.now answer.status answer.text.items has_lines unsettled ends status text)
+pub returns-in-Settled-default-Some : goal.returns-in-Settled-default-Some
+returns-in-Settled-default-Some c = λ lines has_lines.
+    let g = c.args.goal in
+    let said = in_force (halt g) lines in
+    let plan = c.in-Settled-default-Some.plan in
+    let desk = c.in-Settled-default-Some.desk in
+    let answer = ending.Settled plan (Some desk) in
+    let ends = rw c.in-Settled-default-Some.field-1-is at (c.in-Settled-default-Some.ensures.ends g lines has_lines.stands has_lines.few) in
+    let settled = told_end (end_of g lines) Ended.Settled g said answer ends refl in
+    let shown = subst (λ (e : Ended). IsEnding e g said answer) settled ends in
+    let holds = subst (λ (s : Setting). HoldsPairs s (run_pairs said) desk.now.pairs) (sym shown.0) shown.1.1.pairs in
+    both c.assigned.result c.assigned.ensures.status (c.assigned.ensures.text (run_pairs said) holds)
+    (λ answer status text. assigned_answer g lines answer.status answer.text.items plan.now has_lines.looked settled shown.0 shown.1.0 status text)

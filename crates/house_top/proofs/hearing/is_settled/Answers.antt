@@ -5,8 +5,8 @@ use Rattle.house_model.specs.Runs.{halt}
 use Rattle.house_top.proofs.HearLemmas.{settled_by_phase}
 use Rattle.house_top.proofs.hearing.is_settled.Goals as goal
 
-pub returns-then-settles-clause-value : goal.returns-then-settles-clause-value
-returns-then-settles-clause-value c = λ lines stands.
+pub returns-then-settles : goal.returns-then-settles
+returns-then-settles c = λ lines stands.
     ap not c.is_opening.ensures
     ∙ sym (ap (λ b. b && not (is_before_assignment c.phase.result)) (sym c.settles.ensures ∙ c.if-settles.true))
     ∙ settled_by_phase c.args.goal (in_force (halt c.args.goal) lines) c.phase.result (c.phase.ensures.says c.args.goal lines stands)

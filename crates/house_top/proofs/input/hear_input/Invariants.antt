@@ -1,13 +1,15 @@
 use Rattle.std.proofs.Common.{◌≤◌, ◌-◌, ℕ, List}
+use Rattle.house_model.specs.Text.{Lines}
 use Rattle.house_model.specs.declared.limits.TheConstants.{MOST_BYTES}
-use Rattle.house_top.specs.Hearing.{HasHeard}
+use Rattle.house_top.specs.Hearing.{HasHeard, HasOpened}
 use Rattle.house_top.specs.Input.{TakesWhereTold}
 use Rattle.house_top.proofs.input.hear_input.Given as goal
 
 -- what was taken so far was heard
 abbrev pub invariant-pieces : goal.invariant-pieces
 invariant-pieces g l = record {
-  heard : (taken : List ℕ) × TakesWhereTold (g.I.Source.left l.fn.input) (g.I.Source.left l.input) taken × HasHeard l.fn.goal taken l.hearing;
+  heard : (opening : Lines) → HasOpened l.fn.goal opening l.fn.house →
+      (taken : List ℕ) × TakesWhereTold (g.I.Source.left l.fn.input) (g.I.Source.left l.input) taken × HasHeard l.fn.goal opening taken l.hearing;
   never_falls : g.I.Source.faults l.fn.input ≤ g.I.Source.faults l.input;
 }
 

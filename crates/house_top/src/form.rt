@@ -1,6 +1,6 @@
 //! What a call of the program asks for.
 
-use crate::goal::Goal;
+use house_model::Goal;
 
 /// What the words of a call of the program ask for.
 #[derive(Clone, Copy, Debug, PartialEq, Eq)]

@@ -1,0 +1,110 @@
+-- What is promised of a call of the program, by what it asks for and what it is given, where that is told.
+use Rattle.std.specs.Prelude.{◌≡◌, ◌≢◌, ◌↔◌, ◌⊎◌, ◌++◌, ℕ, Option, None, IfSome, IsTrue, take}
+use Rattle.house_io.specs.Faults.{Rose}
+use Rattle.house_io.specs.Sink.{AppendsWhereTold}
+use Rattle.house_base.specs.Text.{Text}
+use Rattle.peer_selection.specs.FirstAssignment.{has_assignment}
+use Rattle.house_model.specs.declared.goal.Goal.{Goal}
+use Rattle.house_model.specs.declared.goal.Goal.TheVariants as goal
+use Rattle.house_model.specs.Headline.{ChancesAreCounted, ComesShort, HasValidAssignment, OrderOfArrivalChangesNothing}
+use Rattle.house_model.specs.Headline.{OwnReviewsChangeNoChance, QuotasAreMeans, SealIsKept, SeatsAreQuotasRounded}
+use Rattle.house_model.specs.Runs.{looked_at, taken}
+use Rattle.house_model.specs.Said.{setting}
+use Rattle.house_model.specs.Text.{Lines, lines}
+use Rattle.house_top.specs.declared.form.Form.{Form}
+use Rattle.house_top.specs.declared.status.Status.{Status}
+use Rattle.house_top.specs.declared.status.Status.TheVariants as status
+use Rattle.house_top.specs.Answer.{IsShortOrFault, IsWhole}
+use Rattle.house_top.specs.Due.{IsDueText, due_status, hears, reported, run_of}
+use Rattle.house_top.specs.Given.{Given}
+use Rattle.house_top.specs.Input.{DecidedWhereTold, EndsWhereTold, NoFurtherWhereTold, UndecidedWhereTold}
+
+-- The status.
+
+-- the status is the due one, or one that comes of a fault or of want of memory
+abbrev pub IsDue : Status → Status → Type 0
+IsDue d status.ReadFault = Unit {0}
+IsDue d status.WriteFault = Unit {0}
+IsDue d status.Memory = Unit {0}
+IsDue d s = s ≡ d
+
+-- a count of faults before a call and after it
+abbrev pub Counts : Type 0
+Counts = ℕ × ℕ
+
+-- a call ends as is due, or for a fault that was counted, or for want of memory
+pub record EndsAsDue (asked : Option Form) (given : Option Given) (s : Status) (reads writes : Counts) : Type 0 where
+  pub usage : (s ≡ status.Usage) ↔ (asked ≡ None)
+  pub due : IfSome given (λ given. IsDue (due_status asked given) s)
+  pub complete : IfSome given (λ given. ¬ Rose reads.0 reads.1 → ¬ Rose writes.0 writes.1 →
+      (s ≡ due_status asked given) ⊎ (s ≡ status.Memory))
+  pub read_fault : s ≡ status.ReadFault → Rose reads.0 reads.1
+  pub write_fault : s ≡ status.WriteFault → Rose writes.0 writes.1
+
+-- What is written.
+
+-- a text of which a fact holds is what was given between two states of an output, where that is told
+abbrev pub Gives : Option Text → Option Text → (Text → Type 0) → Type 0
+Gives before after P = (text : Text) × P text × AppendsWhereTold before after text
+
+-- an output gets a text that is due, whole or, behind a fault, the beginning of it
+pub record WritesWhatIsDue {O : Type 0} (shown : O → Option Text) (asked : Option Form) (given : Option Given)
+    (s : Status) (old new : O) : Type 0 where
+  pub whole_text : IfSome given (λ given. IsWhole s → Gives (shown old) (shown new) (IsDueText asked given))
+  pub write_fault_front : IfSome given (λ given. s ≡ status.WriteFault →
+      (text : Text) × IsDueText asked given text
+      × ((count : ℕ) × AppendsWhereTold (shown old) (shown new) (take count text)))
+  pub usage_writes_nothing : s ≡ status.Usage → new ≡ old
+  pub read_fault_writes_nothing : s ≡ status.ReadFault → new ≡ old
+  pub memory_writes_nothing : s ≡ status.Memory → new ≡ old
+
+-- The headline.
+
+-- the assignment of a run that did what was asked for: it is valid, and the first where none was made by hand; some
+-- assignment is, where only that was asked
+abbrev pub IsWellAssigned : Goal → Lines → Type 0
+IsWellAssigned goal.Run lines = HasValidAssignment goal.Run lines
+IsWellAssigned goal.Pairs lines = HasValidAssignment goal.Pairs lines
+IsWellAssigned goal.Feasible lines = IsTrue (has_assignment (setting lines))
+
+-- what holds of a printed report and of its lines, and of an assignment that is looked for
+pub record KeepsThePromise (asked : Option Form) (given : Option Given) (s : Status)
+    (before after : Option Text) : Type 0 where
+  pub chances_are_counted : s ≡ status.Done → IfSome given (λ given. IfSome (reported asked given)
+      (λ all. Gives before after (ChancesAreCounted all)))
+  pub own_reviews_change_no_chance : s ≡ status.Done → IfSome given (λ given. IfSome (reported asked given)
+      (λ all. Gives before after (OwnReviewsChangeNoChance all)))
+  pub seats_are_quotas_rounded : s ≡ status.Done → IfSome given (λ given. IfSome (reported asked given)
+      SeatsAreQuotasRounded)
+  pub quotas_are_means : s ≡ status.Done → IfSome given (λ given. IfSome (reported asked given) QuotasAreMeans)
+  pub order_of_arrival_changes_nothing : s ≡ status.Done → IfSome given (λ given. IfSome (reported asked given)
+      OrderOfArrivalChangesNothing)
+  pub seal_is_kept : s ≡ status.Done → IfSome given (λ given. IfSome (reported asked given) SealIsKept)
+  pub all_lines_are_run : s ≡ status.Done → IfSome given (λ given. IfSome (reported asked given)
+      (λ all. IfSome (hears asked given) (λ h. all ≡ h.1 ++ lines given.input)))
+  -- an assignment is valid, and a call ends short where one is looked for and there is none, and nowhere else
+  pub assignment_is_valid : s ≡ status.Done → IfSome given (λ given. IfSome (run_of asked given)
+      (λ run. IsWellAssigned run.0 (taken run.0 run.1)))
+  pub short_for_want_of_an_assignment : s ≡ status.Short → IfSome given (λ given. IfSome (run_of asked given)
+      (λ run. ComesShort run.0 (looked_at run.0 run.1)))
+  pub want_of_an_assignment_is_told : IfSome given (λ given. IfSome (run_of asked given)
+      (λ run. ComesShort run.0 (looked_at run.0 run.1) → IsShortOrFault s))
+
+-- What is read, and what becomes of files.
+
+-- an input is read to its end, or as far as it decides how the run ends, and no further
+pub record ReadsFarEnough {I : Type 0} (left : I → Option Text) (asked : Option Form) (given : Option Given)
+    (s : Status) (old new : I) : Type 0 where
+  pub read_far_enough : s ≢ status.ReadFault → s ≢ status.Memory → IfSome given (λ given.
+      IfSome (hears asked given) (λ h. DecidedWhereTold h.0 h.1 (left old) (left new)))
+  pub read_fault_undecided : s ≡ status.ReadFault → IfSome given (λ given.
+      IfSome (hears asked given) (λ h. UndecidedWhereTold h.0 h.1 (left old) (left new)))
+  pub read_no_further : IfSome given (λ given.
+      IfSome (hears asked given) (λ h. NoFurtherWhereTold h.0 h.1 (left old) (left new)))
+  pub read_to_end : s ≡ status.Done → IfSome given (λ given.
+      IfSome (reported asked given) (λ all. EndsWhereTold (left old) (left new)))
+  pub usage_reads_nothing : s ≡ status.Usage → new ≡ old
+
+-- all files are as they were
+pub record KeepsFiles {F : Type 0} (old new : F) : Type 0 where
+  pub shelf_unchanged : new ≡ old

@@ -9,4 +9,3 @@ pub mod NumberLemmas
 pub mod OnceLemmas
 pub mod ReadBackLemmas
 pub mod WordLemmas
-pub mod WrittenLemmas

@@ -1,5 +1,5 @@
 -- The text of a command.
-use Rattle.std.specs.Prelude.{◌≡◌, ℕ, ◌^◌, ◌≤◌, ◌<◌, List, [], ◌∷◌, IsTrue, codes, decimal, length, if◌then◌else◌}
+use Rattle.std.specs.Prelude.{◌≡◌, ◌^◌, ◌≤◌, ◌<◌, List, [], ◌∷◌, IsTrue, codes, decimal, length, if◌then◌else◌}
 use Rattle.std.specs.List.{join_with_byte}
 use Rattle.std.specs.Str.{bytes_eq}
 use Rattle.hex.specs.Hex.{IsBytes, encode_lower}
@@ -9,13 +9,6 @@ use Rattle.house_base.specs.declared.limits.TheConstants.{MOST_CLUSTERS}
 use Rattle.house_base.specs.Text.{Text}
 use Rattle.house_model.specs.declared.command.Command.{Command}
 use Rattle.house_model.specs.declared.command.Command.TheVariants as command
-use Rattle.command_text.specs.declared.text.Word.{Word}
-use Rattle.command_text.specs.declared.text.Word.TheVariants as word
-
--- the text of a word
-abbrev pub written : Word → List ℕ
-written (word.Text text) = text.now
-written (word.Number n) = decimal n
 
 -- the words of a command; a person that is the applicant's name is left out
 abbrev pub command_words : Command → List Text

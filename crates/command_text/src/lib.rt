@@ -13,7 +13,6 @@ pub mod read;
 mod review;
 #[cfg(test)]
 mod tests;
-mod text;
 mod words;
 
 pub use cutter::{Cutter, Fed};

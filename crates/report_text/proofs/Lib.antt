@@ -2,4 +2,3 @@ mod FilterLemmas
 mod OwnerLemmas
 mod PairLineLemmas
 mod RowLineLemmas
-mod WrittenLemmas

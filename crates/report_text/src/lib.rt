@@ -2,7 +2,6 @@
 
 #![tactic(auto)]
 
-mod line;
 mod outcome;
 mod pairs;
 mod refusal;

@@ -6,9 +6,9 @@ ghost use Rattle.house_base.specs.Setting.{size};
 ghost use Rattle.house_model.specs.Report.{line_of};
 ghost use Rattle.house_model.specs.Texts.{pair_lines, pairs_text};
 
-use crate::line::Word::Text;
-use crate::line::push_line;
 use house_base::{Grid, Memory, Name, Owner, Plan};
+use line_text::Word::Text;
+use line_text::push_line;
 use std::alloc::Global;
 
 /// Appends a line for each pair of an assignment, person by person in place order, and each person's by rising

@@ -3,9 +3,9 @@
 ghost use Rattle.std.specs.Prelude.{◌≡◌, ◌++◌, OnOk, OnErr};
 ghost use Rattle.house_model.specs.Report.{line_of, refused_words};
 
-use crate::line::Word::{Number, Text};
-use crate::line::push_line;
 use house_base::{Memory, Reason};
+use line_text::Word::{Number, Text};
+use line_text::push_line;
 use std::alloc::Global;
 
 /// Appends the text of a refusal at a line, counted from 1. After an error the text is as before.
@@ -18,13 +18,6 @@ pub fn write_refused(
     ensures ok { OnOk result (out.new.items ≡ out.old.items ++ line_of (refused_words line reason)) }
     ensures err { OnErr result (out.new.items ≡ out.old.items) }
 {
-    let mut text = Vec::new(alloc);
     let word = reason.word().as_bytes();
-    push_line(
-        alloc,
-        &[Text(b"refused"), Number(line), Text(word)],
-        &mut text,
-    )?;
-    out.extend_from_slice(&text)?;
-    Ok(())
+    push_line(alloc, &[Text(b"refused"), Number(line), Text(word)], out)
 }

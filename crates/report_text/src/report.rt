@@ -5,11 +5,11 @@ ghost use Rattle.house_model.specs.Report.{line_of, stand_alone, call_words, app
 ghost use Rattle.house_model.specs.Report.{cluster_words, cluster_lines, applicant_words, applicant_lines, empty_words};
 ghost use Rattle.house_model.specs.Report.{report_head, report_body, outcome_text};
 
-use crate::line::Word::{Number, Share, Text};
-use crate::line::push_line;
 use crate::outcome::Outcome;
 use house_base::Memory;
 use house_model::{ApplicantRow, ClusterRow};
+use line_text::Word::{Number, Share, Text};
+use line_text::push_line;
 use std::alloc::Global;
 
 /// Appends the report of an outcome. After an error the text is as before.

@@ -9,10 +9,10 @@ ghost use Rattle.house_model.specs.Report.{line_of};
 ghost use Rattle.house_model.specs.Texts.{proposals_in, reviewers_in, short_text, short_words};
 ghost use Rattle.cut_gap.specs.Cut.{marked};
 
-use crate::line::Word::{Number, Text};
-use crate::line::push_line;
 use cut_gap::Cut;
 use house_base::{Memory, Name, Plan};
+use line_text::Word::{Number, Text};
+use line_text::push_line;
 use std::alloc::{AllocError, Global};
 
 /// Appends the text of a shortage: how many pairs its cut allows and how many it needs, its persons and its

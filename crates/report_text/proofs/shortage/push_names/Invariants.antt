@@ -1,5 +1,5 @@
 use Rattle.std.proofs.Common.{◌≡◌, ◌∷◌, map, take}
-use Rattle.report_text.specs.Written.{written}
+use Rattle.line_text.specs.Written.{written}
 use Rattle.report_text.proofs.shortage.push_names.Given as goal
 
 -- the words so far are the first and the names so far

@@ -1,9 +1,11 @@
-use Rattle.std.proofs.Common.{◌≡◌, ℕ, ◌<◌, ◌≤◌, ◌+◌, suc, length-take, true, cond, ltb, List, [], ◌∷◌, ◌++◌, map, length, take, get_or, refl, sym, ap, ◌∙◌, append_assoc, arith}
+use Rattle.std.proofs.Common.{◌≡◌, ℕ, ◌<◌, ◌≤◌, ◌+◌, suc, length-take, true, cond, ltb, List, [], ◌∷◌, ◌++◌, map, length, take, get_or, refl, sym, ap, ◌∙◌, append_assoc, arith, Result, Ok, Err}
+use Rattle.std.specs.Prelude.{OnErr}
 use Rattle.std.specs.List.{join_with_byte}
 use Rattle.std.proofs.lemmas.Bool.{le-leb, lt-leb}
 use Rattle.std.proofs.lemmas.List.{take_more, map-append, length-map}
-use Rattle.report_text.specs.declared.line.Word.{Word}
-use Rattle.report_text.specs.Written.{written}
+use Rattle.std.proofs.Math.Seq.{take-append_seam}
+use Rattle.line_text.specs.declared.word.Word.{Word}
+use Rattle.line_text.specs.Written.{Extends, written}
 
 -- a list with one more word at its end, joined
 pub join_push : (c : ℕ) (x : List ℕ) (xs : List (List ℕ)) (y : List ℕ) → join_with_byte c ((x ∷ xs) ++ y ∷ []) ≡ join_with_byte c (x ∷ xs) ++ c ∷ y
@@ -49,3 +51,20 @@ line_grows old out words i d h spaced =
     ap (λ t. t ++ written (get_or words i d)) spaced
     ∙ append_assoc old (before_next words i) (written (get_or words i d))
     ∙ ap (λ t. old ++ t) (sym (join_more words i d h))
+
+-- A text that begins with an old one.
+
+pub extends_by : (old new more : List ℕ) → new ≡ old ++ more → Extends old new
+extends_by old new more same = (more, same)
+
+pub extends_more : (old mid new : List ℕ) → Extends old mid → Extends mid new → Extends old new
+extends_more old mid new first second = (first.0 ++ second.0, second.1 ∙ ap (λ t. t ++ second.0) first.1 ∙ append_assoc old first.0 second.0)
+
+-- cut back to its length
+pub cut_back : (old new : List ℕ) → Extends old new → take (length old) new ≡ old
+cut_back old new extends = ap (take (length old)) extends.1 ∙ take-append_seam old extends.0
+
+-- what holds whatever the answer is, holds at an error
+pub at_error : {A E : Type 0} (answer : Result A E) (P : Type 0) → P → OnErr answer P
+at_error (Ok a) P holds = tt
+at_error (Err e) P holds = holds

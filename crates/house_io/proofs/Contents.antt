@@ -1,5 +1,5 @@
 -- A map of texts and vectors, seen as what each file holds.
-use Rattle.std.proofs.Common.{◌≡◌, ℕ, Bool, true, false, cond, List, [], ◌∷◌, map, Option, Some, String, Vec, BTreeMap, sym, refl, ap, ◌∙◌}
+use Rattle.std.proofs.Common.{◌≡◌, ℕ, Bool, true, false, cond, List, [], ◌∷◌, map, Option, Some, String, Vec, BTreeMap, sym, refl, ap, ◌∙◌, subst, IsSome}
 use Rattle.std.specs.Option.{option_map}
 use Rattle.std.specs.Ordering.{nat_cmp, eq_by_cmp, is_eq}
 use Rattle.std.specs.Cmp.Lexicographic.{slice_cmp, nat_list_cmp_total, nat_list_eq_equiv}
@@ -8,8 +8,10 @@ use Rattle.std.specs.String.{string_bytes, string_cmp}
 use Rattle.std.specs.Map.{lookup}
 use Rattle.std.specs.BTreeMap.{get_by_text, is_at, Updates}
 use Rattle.std.specs.FinMap.{get, insert, find, get-from_entries, get-insert, same_map, nat_cmp-IsAntisymmetric, slice_cmp-IsAntisymmetric}
+use Rattle.std.proofs.lemmas.Cmp.{eq_by_cmp_equiv}
 use Rattle.std.proofs.lemmas.Map.Text.{is_eq-slice_cmp, btree_map_updates_text}
-use Rattle.house_io.specs.ScriptedFiles.{file_of, contents_of}
+use Rattle.house_io.specs.Files.{Contents}
+use Rattle.house_io.specs.FileMap.{file_of, contents_of}
 
 module _ {Z : Type 0} where
   -- the content of a vector
@@ -46,3 +48,14 @@ module _ {Y Z : Type 0} where
       ∙ ap (λ b. cond b (Some bytes.items) (content_of (get_by_text old name))) same_test
       ∙ ap (λ o. cond (eq_by_cmp (slice_cmp nat_cmp) name (string_bytes key)) (Some bytes.items) o) (sym (get-contents_of old name))
       ∙ sym (get-insert nat_list_cmp_total (contents_of old) (string_bytes key) bytes.items name))
+
+-- a file that was put is held
+pub held-insert : (files : Contents) (name bytes : List ℕ) → IsSome (get (insert files name bytes) name)
+held-insert files name bytes =
+    subst IsSome (sym (get-insert nat_list_cmp_total files name bytes name ∙ ap (λ b. cond b (Some bytes) (get files name)) ((eq_by_cmp_equiv nat_list_cmp_total).refl name))) refl
+
+-- a file that was held is held when another was put
+pub held-before_insert : (files : Contents) (name bytes other : List ℕ) → IsSome (get files other) → IsSome (get (insert files name bytes) other)
+held-before_insert files name bytes other held =
+    subst IsSome (sym (get-insert nat_list_cmp_total files name bytes other))
+    (elim (eq_by_cmp (slice_cmp nat_cmp) other name) as (λ b. IsSome (cond b (Some bytes) (get files other))) [ true ↦ refl | false ↦ held ])

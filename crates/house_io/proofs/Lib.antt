@@ -1,3 +1,4 @@
+mod Always
 mod Contents
 pub mod Counting
 mod Room

@@ -3,6 +3,7 @@ pub mod Faults
 pub mod Source
 pub mod Sink
 pub mod Files
+pub mod FileMap
 pub mod Collected
 pub mod ScriptedFiles
 pub mod Script

@@ -1,8 +1,7 @@
 -- Files in memory whose calls fail by a script.
-use Rattle.std.specs.Prelude.{ℕ, Bool, true, false, List, map, Contains, Result, Ok, Err, String, Vec, string_bytes, refl}
-use Rattle.std.specs.BTreeMap.{BTreeMap}
+use Rattle.std.specs.Prelude.{ℕ, Bool, true, false, List, Contains, Result, Ok, Err, refl}
 use Rattle.std.specs.Coded.{Coded, code_by, coded×, coded_ℕ, coded_list}
-use Rattle.std.specs.FinMap.{code, empty, from_entries, insert}
+use Rattle.std.specs.FinMap.{code, empty, insert}
 use Rattle.house_io.specs.Faults.{next_count}
 use Rattle.house_io.specs.Files.{Contents}
 use Rattle.house_io.specs.declared.files.LoadFault.{LoadFault}
@@ -23,15 +22,6 @@ coded_scripted_files =
     (λ s. (s.files, (s.fails, (s.calls, s.faults))))
     (λ p. record { files = p.0; fails = p.1.0; calls = p.1.1.0; faults = p.1.1.1 })
     (λ _. refl)
-
-module _ {Y Z : Type 0} where
-  -- the bytes of a name and the content of its file
-  abbrev pub file_of : String Y × Vec ℕ Z → List ℕ × List ℕ
-  file_of entry = (string_bytes entry.0, entry.1.items)
-
-  -- what a map of texts and vectors holds
-  abbrev pub contents_of : BTreeMap (String Y) (Vec ℕ Z) → Contents
-  contents_of files = from_entries (map file_of files.entries)
 
 -- no file, and no call yet
 abbrev pub no_files : List ℕ → ScriptedFiles

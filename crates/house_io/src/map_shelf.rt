@@ -1,17 +1,16 @@
 //! Files in memory that fail by a script.
 
 ghost use Rattle.std.specs.Prelude.{◌≡◌, ◌↔◌, ◌≤◌, ◌⊎◌, None, Some, IsTrue, IfOk, OnOk, OnErr, IsErr, IsErrOf, vec_len, if◌then◌else◌};
-ghost use Rattle.std.specs.Option.{option_copied};
 ghost use Rattle.std.specs.FinMap as map;
 ghost use Rattle.house_io.specs.Files.{IsLonger};
 ghost use Rattle.house_io.specs.ScriptedFiles.{no_files, with_file, IsNextCallFailing, after_call, after_failed_call, answers_failed};
 ghost use Rattle.house_io.specs.Faults.{next_count};
 
 use crate::faults::next_count;
+use crate::file_map::FileMap;
 use crate::{Failed, Files, LoadFault, Shelf};
 use house_base::Memory;
 use std::alloc::Global;
-use std::collections::BTreeMap;
 use std::marker::Model;
 
 /// Files in memory, every name of which may be asked for. The calls of `load` and `store` are numbered from 1,
@@ -19,20 +18,20 @@ use std::marker::Model;
 /// a store that finds no memory.
 #[derive(Drop)]
 pub struct MapShelf {
-    files: BTreeMap<String, Vec<u8>>,
+    files: FileMap,
     fails: Vec<u64>,
     calls: u64,
     faults: u64,
 }
 
 impl Model for MapShelf {
-    ghost use Rattle.house_io.specs.ScriptedFiles.{ScriptedFiles, coded_scripted_files, contents_of};
+    ghost use Rattle.house_io.specs.ScriptedFiles.{ScriptedFiles, coded_scripted_files};
 
     ghost Value = { ScriptedFiles };
 
     ghost coded = { coded_scripted_files };
 
-    ghost view = { λ shelf. record { files = contents_of shelf.files; fails = shelf.fails.items; calls = shelf.calls; faults = shelf.faults } };
+    ghost view = { λ shelf. record { files = shelf.files; fails = shelf.fails.items; calls = shelf.calls; faults = shelf.faults } };
 }
 
 impl MapShelf {
@@ -42,7 +41,7 @@ impl MapShelf {
     {
         let alloc = *fails.allocator();
         MapShelf {
-            files: BTreeMap::new(alloc),
+            files: FileMap::new(alloc),
             fails,
             calls: 0,
             faults: 0,
@@ -54,9 +53,7 @@ impl MapShelf {
         ensures stored { OnOk result (self.new ≡ with_file self.old name.now bytes.items) }
         ensures untouched { OnErr result (self.new ≡ self.old) }
     {
-        let name = String::from_str(alloc, name)?;
-        self.files.insert(name, bytes)?;
-        Ok(())
+        self.files.put(alloc, name, bytes)
     }
 
     fn put_copy(&mut self, name: &str, bytes: &[u8]) -> Result<(), Memory>
@@ -66,13 +63,6 @@ impl MapShelf {
         let alloc = *self.fails.allocator();
         let copy = bytes.to_vec(alloc)?;
         self.put(alloc, name, copy)
-    }
-
-    fn content(&self, name: &str) -> Option<&[u8]>
-        ensures { option_copied result ≡ map.get self.now.files name.now }
-    {
-        let bytes = self.files.get(name)?;
-        Some(bytes.as_slice())
     }
 
     // Counts a call. One that the script names fails.
@@ -120,10 +110,9 @@ impl Files for MapShelf {
         ensures never_falls { self.old.faults ≤ self.new.faults }
     {
         self.begin_call()?;
-        match self.content(name) {
-            None => Err(self.fail().into()),
-            Some(bytes) if bytes.len() > most => Err(LoadFault::Long),
-            Some(bytes) => Ok(bytes.to_vec(alloc)?),
+        match self.files.copy(alloc, name, most) {
+            Err(LoadFault::Failed) => Err(self.fail().into()),
+            loaded => loaded,
         }
     }
 }

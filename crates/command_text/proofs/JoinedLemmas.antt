@@ -72,7 +72,7 @@ digit_byte b h = grind (arith, nat_tests)
 small_digit_byte : (b : ℕ) → is_small_digit b ≡ true → not (is_gap b) ≡ true
 small_digit_byte b h = grind (arith, nat_tests)
 
-name_parts : (w : Text) → is_name w ≡ true → (0 < length w) × (list_all is_name_byte w ≡ true)
+pub name_parts : (w : Text) → is_name w ≡ true → (0 < length w) × (list_all is_name_byte w ≡ true)
 unfolding is_name
 name_parts [] h = cc
 name_parts (x ∷ xs) h = (omega arith, grind (arith, nat_tests))
@@ -80,7 +80,7 @@ name_parts (x ∷ xs) h = (omega arith, grind (arith, nat_tests))
 pub word_of_name : (w : Text) → IsTrue (is_name w) → is_word w ≡ true
 word_of_name w h = let parts = name_parts w h in word_of_bytes is_name_byte name_byte w parts.0 parts.1
 
-seed_parts : (w : Text) → is_seed w ≡ true → (0 < length w) × (list_all is_seed_byte w ≡ true)
+pub seed_parts : (w : Text) → is_seed w ≡ true → (0 < length w) × (list_all is_seed_byte w ≡ true)
 unfolding is_seed
 seed_parts w h = (grind (arith, nat_tests), grind (arith, nat_tests))
 
@@ -101,7 +101,7 @@ word_of_number n fits =
 small_at : (k : ℕ) → k < 16 → is_small_digit (get_or lower_digits k 0) ≡ true
 small_at k below = AllPass-from_list_all is_small_digit lower_digits refl k 0 below
 
-digits_are_small : (bytes : List ℕ) → IsBytes bytes → list_all is_small_digit (encode_lower bytes) ≡ true
+pub digits_are_small : (bytes : List ℕ) → IsBytes bytes → list_all is_small_digit (encode_lower bytes) ≡ true
 unfolding encode_with
 digits_are_small [] h = refl
 digits_are_small (b ∷ bytes) h =

@@ -7,5 +7,6 @@ pub mod JoinedLemmas
 pub mod LineLemmas
 pub mod NumberLemmas
 pub mod OnceLemmas
+pub mod OneLineLemmas
 pub mod ReadBackLemmas
 pub mod WordLemmas

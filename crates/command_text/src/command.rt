@@ -170,7 +170,7 @@ fn read_any_number(word: &[u8]) -> Result<u64, Reason>
 }
 
 /// A word that is to be a digest in hexadecimal, in small letters.
-fn read_digest(word: &[u8]) -> Result<[u8; 32], Reason>
+pub fn read_digest(word: &[u8]) -> Result<[u8; 32], Reason>
     ensures ok { IfOk result (λ digest. (decode_of word.now ≡ Ok digest) × (is_hex64 word.now ≡ true)) }
     ensures err { IfErr result (λ reason. (reason ≡ Reason.Form) × (is_hex64 word.now ≡ false)) }
 {

@@ -15,6 +15,7 @@ mod review;
 mod tests;
 mod words;
 
+pub use command::read_digest;
 pub use cutter::{Cutter, Fed};
 pub use cutting::{cut, first_line, within};
 pub use house_model::{Command, Verb};
@@ -22,3 +23,4 @@ pub use line::Line;
 pub use lines::Lines;
 pub use print::print_command;
 pub use read::{is_blank_at_once, read_line};
+pub use words::next_word;

@@ -6,6 +6,7 @@ ghost use Rattle.house_base.specs.Name.{is_name};
 ghost use Rattle.house_base.specs.Seed.{is_seed};
 ghost use Rattle.house_model.specs.Report.{line_of};
 ghost use Rattle.house_model.specs.declared.command.Command.TheVariants as command;
+ghost use Rattle.command_text.specs.Held.{HasNoFeed};
 ghost use Rattle.command_text.specs.Printing.{IsFormed, IsInBounds, command_line, command_words};
 ghost use Rattle.command_text.specs.Reading.{ReadsOnlyAs};
 
@@ -22,6 +23,7 @@ pub fn print_command(alloc: Global, command: &Command, out: &mut Vec<u8>) -> Res
     ensures ok { OnOk result (out.new.items ≡ out.old.items ++ command_line command.now ++ 10 ∷ []) }
     ensures err { OnErr result (out.new.items ≡ out.old.items) }
     ensures reads_back { IsInBounds command.now → ReadsOnlyAs (command_line command.now) (Line.House command.now) }
+    ensures one_line { HasNoFeed (command_line command.now) }
 {
     push_command(alloc, command, out)
 }

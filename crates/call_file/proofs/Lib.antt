@@ -1,0 +1,10 @@
+pub mod CountLemmas
+pub mod EntryLemmas
+pub mod FewLemmas
+pub mod KeyLemmas
+pub mod OpenedLemmas
+pub mod OpeningLemmas
+pub mod PassLemmas
+pub mod PlaceLemmas
+pub mod ReadingLemmas
+pub mod RecordLemmas

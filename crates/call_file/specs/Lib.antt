@@ -1,0 +1,5 @@
+pub mod Keys
+pub mod Register
+pub mod Records
+pub mod Opening
+pub mod Pass

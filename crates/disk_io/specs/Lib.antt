@@ -1,0 +1,4 @@
+pub mod Disk
+pub mod Images
+pub mod Replay
+pub mod Laws

@@ -24,7 +24,7 @@ impl Model for Lines {
 }
 
 impl Lines {
-    ghost use Rattle.std.specs.Prelude.{◌≡◌, ◌<◌, ◌++◌, ◌∷◌, [], Some, OnOk, OnErr, length, slice_get};
+    ghost use Rattle.std.specs.Prelude.{◌≡◌, ◌<◌, ◌-◌, ◌++◌, ◌∷◌, [], Some, OnOk, OnErr, length, slice_get, take};
     ghost use Rattle.command_text.specs.Held.{HasNoFeed};
 
     /// No lines.
@@ -66,6 +66,17 @@ impl Lines {
         self.bytes.extend_from_slice(line)?;
         self.ends.push_reserved(self.bytes.len());
         Ok(())
+    }
+
+    /// Takes the last line off.
+    pub fn remove_last(&mut self)
+        requires { 0 < length self.old }
+        ensures { self.new ≡ take (length self.old - 1) self.old }
+    {
+        let last = self.ends.len() - 1;
+        let start = start_of(&self.ends, last);
+        self.bytes.truncate(start);
+        self.ends.truncate(last);
     }
 }
 

@@ -1,0 +1,4 @@
+pub mod JournalLemmas
+pub mod DeterminedLemmas
+pub mod LogLemmas
+pub mod EntryLemmas

@@ -1,0 +1,13 @@
+//! Lines that are taken one by one into a journal, so that none that was acknowledged is lost by a crash.
+
+#![tactic(auto)]
+
+mod entry;
+pub mod fault;
+pub mod journal_laws;
+pub mod limits;
+pub mod log;
+
+pub use disk_io::{Disk, FileDisk, MemoryDisk};
+pub use fault::PutFault;
+pub use log::Log;

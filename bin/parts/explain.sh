@@ -1,0 +1,121 @@
+# What went wrong, on standard error, for bin/house: from the words, the input and the program's answer.
+
+# A word as it can be typed into a shell.
+quoted() {
+    case $1 in
+        '' | *[!A-Za-z0-9_./,:=@%+-]*) printf "'%s'" "$(printf '%s' "$1" | sed "s/'/'\\\\''/g" | LC_ALL=C tr '\1-\37\177' '?')" ;;
+        *) printf '%s' "$1" ;;
+    esac
+}
+
+# Whether a program has the words; says what is wrong where it has not.
+are_words() {
+    case ${1-} in
+        run | feasible | pairs)
+            [ $# -gt 1 ] || return 0
+            if [ -e "$2" ]; then
+                say "the file goes to standard input: bin/house $1 < $(quoted "$2")"
+            else
+                say "\`$1\` takes no further words; the file goes to standard input: bin/house $1 < FILE"
+            fi
+            ;;
+        '') say "a word is missing: bin/house help lists them" ;;
+        *)
+            low=$(printf '%s' "$1" | LC_ALL=C tr 'A-Z' 'a-z')
+            if [ -n "$(help_on_form "$low")" ]; then
+                say "words are written in small letters: bin/house $low < FILE"
+            elif [ -f "$1" ]; then
+                say "a word is missing before the file: bin/house run < $(quoted "$1")"
+            elif [ -n "$(meaning "$1")$(set_aside "$1")$(help_on_text "$1")" ]; then
+                say "$1 is a word of the answers: bin/house help $1 says what it means"
+            else
+                say "$(quoted "$1") is no word of the program; there are run, feasible and pairs: bin/house help"
+            fi
+            ;;
+    esac
+    return 1
+}
+
+# What the first bytes of the input show, where it is no file of plain lines; nothing else.
+off_encoding() {
+    begin=$(head -c 4096 "$1" | od -An -v -tu1 | tr -s ' \n' '  ')
+    case $begin in
+        ' 239 187 191'*) echo "the input begins with a byte order mark, which belongs to its first word; without it: tail -c +4 FILE" ;;
+        ' 255 254'* | ' 254 255'*) echo "the input is UTF-16, two bytes a letter; to make plain text of it: iconv -f UTF-16 -t UTF-8 FILE" ;;
+        *' 0 '*) echo "the input has zero bytes, and so it is no plain text; UTF-16 becomes plain by: iconv -f UTF-16LE -t UTF-8 FILE" ;;
+        *' 10 '*) ;;
+        *' 13 '[0-9]*) echo "the input has CR as the end of its lines, as old Macs wrote it; LF is wanted: tr '\\r' '\\n' < FILE" ;;
+    esac
+}
+
+# The clusters that a seed draws, a line PERSON CLUSTER for each person of the prepared input.
+draw_clusters() {
+    awk -v number="$2" '{ sub(/\001$/, "") } NR >= number { exit } $1 == "applicant" { who = NF > 2 ? $3 : $2; if (!(who in seen)) print who; seen[who] }' "$1" \
+        | while read -r person; do
+            digest=$(printf 'partition:%s:%s' "$3" "$person" | sha256sum)
+            printf '%s %s\n' "${digest%% *}" "$person"
+        done | LC_ALL=C sort | awk -v clusters="$4" '{ print $2, 1 + (NR - 1) % clusters }'
+}
+
+# Shows the refused line of the input in the file $1, for which the program with the other words is asked once more.
+show_refused() {
+    input=$1
+    shift
+    answer=$("$program" "$@" <"$input" 2>/dev/null)
+    number=$(printf '%s\n' "$answer" | sed -n 's/^refused \([0-9]*\) [a-z-]*$/\1/p')
+    reason=$(printf '%s\n' "$answer" | sed -n 's/^refused [0-9]* \([a-z-]*\)$/\1/p')
+    if [ -z "$number" ]; then
+        refused_somewhere
+        return
+    fi
+    : >"$room/drawn"
+    bytes=$(LC_ALL=C sed -n "$number{p;q;}" "$input" | head -c 2000 | od -An -v -tu1 | tr -s ' \n' '  ' | sed 's/ 10 *$//')
+    LC_ALL=C tr '\15' '\1' <"$input" | LC_ALL=C tr -c '\1\11\12\40-\176' '?' >"$room/plain"
+    line=$(sed -n "$number{p;q;}" "$room/plain" | tr -d '\1' | cut -c 1-160)
+    if [ -n "$line" ]; then
+        say "line $number is refused: $line"
+    elif [ "$number" = 1 ]; then
+        say "the input is refused: it has no lines"
+    else
+        say "the input is refused at its end, behind its line $((number - 1))"
+    fi
+    say "$reason: $(meaning "$reason")"
+    off=$(off_encoding "$input")
+    case $bytes in
+        ' 239 187 191'*) [ -n "$off" ] || off="the line begins with a byte order mark, as a file does that was appended" ;;
+    esac
+    if [ -z "$off" ]; then
+        if [ "$reason" = invalid ]; then
+            seed=$(awk -v number="$number" '{ sub(/\001$/, "") } NR >= number { exit } $1 == "partition" { print $2 }' "$room/plain")
+            clusters=$(awk '{ sub(/\001$/, "") } $1 == "call" { print $3; exit }' "$room/plain")
+            [ -z "$seed" ] || draw_clusters "$room/plain" "$number" "$seed" "$clusters" >"$room/drawn"
+        fi
+        off=$(awk -v number="$number" -v reason="$reason" -v bytes="$bytes" -v drawn="$room/drawn" \
+            -f "$here/bin/parts/explain.awk" "$room/plain" | cut -c 1-300)
+    fi
+    [ -z "$off" ] || say "here: $off"
+}
+
+refused_somewhere() {
+    say "a line of the input, or its end, was refused; bin/house help REASON says what the reason means"
+}
+
+# A file in which the last line has no end: what is appended to it next joins that line.
+warn_of_open_end() {
+    if [ -s "$1" ] && [ "$(tail -c 1 "$1" | od -An -tu1 | tr -d ' ')" != 10 ]; then
+        say "the last line of the file has no line end: what is appended next would join it (echo >> FILE ends it)"
+    fi
+}
+
+# One line on what happened, where the program's own answer may not say it.
+explain() {
+    case $1 in
+        1) say "these words are none of the program's; bin/house help lists them" ;;
+        3) say "no valid assignment exists; docs/running-a-call.md says how to read this shortage" ;;
+        4) say "the input could not be read, so nothing was written; see the file or the command before the pipe" ;;
+        5) say "the output could not be written whole; see the disk, or the command behind the pipe" ;;
+        6) say "there was not enough memory, so nothing was written" ;;
+        8) say "the input has more than 16,777,216 bytes or 1,048,576 lines" ;;
+        129 | 1[3-5][0-9]) say "the program was ended by the signal $(($1 - 128))" ;;
+    esac
+}

@@ -1,0 +1,167 @@
+# The answers to `help` and `version`, for bin/house.
+
+forms() {
+    cat <<'TEXT'
+house reads a command file on standard input and writes its answer to standard output.
+
+    bin/house run < FILE         runs the call and writes the report
+    bin/house feasible < FILE    says whether the call has a valid assignment
+    bin/house pairs < FILE       writes the assignment, a line for each pair
+    bin/house help [WORD]        this page, or what a word means: one of the above, a reason, a kind of review lines
+                                 that are set aside, a text such as `short`; `reasons`, `kinds` and `status` list them
+    bin/house version            the commit and the toolchain
+
+TEXT
+    statuses
+    cat <<'TEXT'
+
+docs/running-a-call.md leads through a call, docs/formats.md has the commands and the texts.
+TEXT
+}
+
+statuses() {
+    cat <<'TEXT'
+Exit status, and what is written:
+     0  done                                  the report, `feasible`, or the pairs
+     1  the words are none of the above       nothing
+     2  a line of the input, or its end, is
+        refused                               `refused LINE REASON`
+     3  no valid assignment exists            the shortage, in three lines
+     4  the input could not be read           nothing
+     5  the output could not be written       the front of what was due
+     6  there was not enough memory           nothing
+     8  the input is too long                 `too-long`
+    70  the program could not be built        nothing; only this script ends so
+TEXT
+}
+
+reason_words='no-call order form name range known unknown too-many seal few unplaced invalid unfinished'
+kind_words='form early late unknown unassigned range'
+
+# What a reason means, for which a line is refused; nothing where the word is none.
+meaning() {
+    case $1 in
+        no-call) echo "there is no \`call\` before this line, or in the whole input" ;;
+        order) echo "this command may not come here, or not again, or not beside another that came" ;;
+        form) echo "the first word is no command, or the number of words is wrong, or the digest has not 64 digits of 0-9 and a-f" ;;
+        name) echo "a name is not 1 to 24 of a-z, 0-9 and -, the first a letter; or a seed not 1 to 64 of letters, digits and -" ;;
+        range) echo "a number has leading zeros or other signs than digits, or is not within its bounds: in \`call\` seats 1 to 1,000, clusters 2 to 30, reviews 1 to 20; in \`place\` a cluster of the call; in \`draw\` less than 1,000,000 for each person" ;;
+        known) echo "the applicant's name is taken, or the person is in a cluster already, or the pair was given already" ;;
+        unknown) echo "a name that has to be a person's is no person's, or one that has to be an applicant's is no applicant's" ;;
+        too-many) echo "there are 1,000 applicants already, or 5 of this person" ;;
+        seal) echo "the call is sealed, and this is a draw by number, or a lottery whose seed has another seal" ;;
+        few) echo "nobody applied before this \`assign\`" ;;
+        unplaced) echo "some person is in no cluster, and the clusters are not drawn by a \`partition\`" ;;
+        invalid) echo "the \`pair\` lines are no valid assignment" ;;
+        unfinished) echo "the input ends after a call and before its \`draw\` or \`lottery\`" ;;
+    esac
+}
+
+# Why a review line of this kind is set aside; nothing where the word is no kind.
+set_aside() {
+    case $1 in
+        form) echo "it has not exactly 4 words" ;;
+        early) echo "no \`assign\` came before it" ;;
+        late) echo "\`close\` came before it" ;;
+        unknown) echo "the first name is no person's, or the second no applicant's" ;;
+        unassigned) echo "the person is not to review this applicant" ;;
+        range) echo "the points are no whole number from 0 to 100 without leading zeros" ;;
+    esac
+}
+
+reasons() {
+    echo "The reasons of \`refused LINE REASON\`; of several that fit the first in this order is given:"
+    for word in $reason_words; do
+        printf '  %-12s%s\n' "$word" "$(meaning "$word")"
+    done
+    echo "Beside them review lines are set aside: bin/house help kinds"
+}
+
+kinds() {
+    echo "The kinds of review lines that are set aside, in the order of the report's line \`aside\`:"
+    for word in $kind_words; do
+        printf '  %-12s%s\n' "$word" "$(set_aside "$word")"
+    done
+}
+
+help_on_form() {
+    case $1 in
+        run) cat <<'TEXT'
+house run < FILE
+Takes the lines of FILE one after another. At `assign` the assignment is the `pair` lines, where there are any, and
+is computed where there are none. Review lines are kept, or set aside and counted; they never end a run. Behind the
+draw it writes the report: a line for each cluster and for each applicant, with the exact chance that it had.
+TEXT
+            ;;
+        feasible) cat <<'TEXT'
+house feasible < FILE
+Takes the lines of FILE up to `assign`, looks at no `pair` lines, and writes `feasible` where some valid assignment
+exists, and else the shortage, with exit status 3. Lines behind `assign` are not looked at.
+TEXT
+            ;;
+        pairs) cat <<'TEXT'
+house pairs < FILE
+Takes the lines of FILE up to `assign` and writes `pair PERSON APPLICANT` for each pair of the assignment: PERSON
+reviews APPLICANT. Without `pair` lines in FILE it is computed. Lines behind `assign` are not looked at. What it
+writes can be put before `assign` and gives the same assignment again.
+TEXT
+            ;;
+    esac
+}
+
+help_on_text() {
+    case $1 in
+        refused) cat <<'TEXT'
+refused LINE REASON
+A line of the input, or its end, may not come where it stands; nothing behind it was looked at. bin/house help REASON
+TEXT
+            ;;
+        short) cat <<'TEXT'
+short allowed ALLOWED needed NEEDED, and two lines of names
+No valid assignment exists: of the pairs between these persons and these applicants NEEDED would have to be, and
+ALLOWED may be. docs/running-a-call.md says how to mend it.
+TEXT
+            ;;
+        too-long) cat <<'TEXT'
+too-long
+The input has more than 16,777,216 bytes or 1,048,576 lines, and no line within these limits ended the run.
+TEXT
+            ;;
+        aside) cat <<'TEXT'
+aside FORM EARLY LATE UNKNOWN UNASSIGNED RANGE
+How many review lines the report left out, by kind. bin/house help kinds
+TEXT
+            ;;
+    esac
+}
+
+help_on() {
+    case $1 in
+        run | feasible | pairs) help_on_form "$1" ;;
+        refused | short | too-long | aside) help_on_text "$1" ;;
+        reason | reasons) reasons ;;
+        kind | kinds) kinds ;;
+        status | statuses) statuses ;;
+        help | --help | -h | version | --version) forms ;;
+        *)
+            what=$(meaning "$1")
+            why=$(set_aside "$1")
+            if [ -z "$what$why" ]; then
+                say "there is no help on this word; bin/house help lists the words"
+                return 1
+            fi
+            [ -z "$what" ] || printf 'refused LINE %s: %s\n' "$1" "$what"
+            [ -z "$why" ] || printf 'a review line is set aside as `%s`: %s\n' "$1" "$why"
+            printf 'docs/formats.md has an example of each.\n'
+            ;;
+    esac
+}
+
+version() {
+    commit=$(git -C "$here" rev-parse --short=12 HEAD 2>/dev/null) || commit=unknown
+    if [ "$commit" != unknown ] && [ -n "$(git -C "$here" status --porcelain 2>/dev/null)" ]; then
+        commit="$commit with changes"
+    fi
+    kit=$(rt version 2>/dev/null) || kit=unknown
+    printf 'house %s\ntoolchain %s\n' "$commit" "$kit"
+}

@@ -161,8 +161,8 @@ begin() {
     date +%s >"$room/$name.begun"
 }
 
-# Takes the crates that ended out of those that run; answers no where one was not proved. A crate that took a few seconds
-# and more was not kept.
+# Takes the crates that ended out of those that run; answers no where one was not proved. A crate that took five
+# seconds or more was not kept.
 collect() {
     still=
     for name in $running; do

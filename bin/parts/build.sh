@@ -38,7 +38,7 @@ crate_lines() {
 # The crates of the repository that the program stands on, and itself, lowest first.
 crates_below() {
     crate_lines | awk '
-        { name = $1; sub(/:$/, "", name); names[++n] = name; listed[name]
+        { name = $1; sub(/:$/, "", name); listed[name]
           for (i = 2; i <= NF; i++) below[name] = below[name] " " $i }
         function visit(it,    parts, count, i) {
             if (it in seen || !(it in listed)) return
@@ -50,11 +50,21 @@ crates_below() {
         END { visit("house_cli") }'
 }
 
-# The crates of the repository that a crate names.
-named_by() {
-    crate_lines | sed -n "s/^$1: *//p" | tr ' ' '\n' | while read -r name; do
-        case $crates in *" $name "*) echo "$name" ;; esac
-    done
+# Whether each of these crates, lowest first, stands on the one before it, so that no two can be proved side by side.
+is_chain() {
+    crate_lines | awk -v names="$*" '
+        { name = $1; sub(/:$/, "", name)
+          for (i = 2; i <= NF; i++) below[name] = below[name] " " $i }
+        function stands_on(it, other,    parts, count, i) {
+            count = split(below[it], parts, " ")
+            for (i = 1; i <= count; i++) if (parts[i] == other) return 1
+            for (i = 1; i <= count; i++) if (stands_on(parts[i], other)) return 1
+            return 0
+        }
+        END {
+            count = split(names, chain, " ")
+            for (i = 2; i <= count; i++) if (!stands_on(chain[i], chain[i - 1])) exit 1
+        }'
 }
 
 # As many crates side by side as there are processors, and 2 GB of free memory for each.
@@ -108,11 +118,11 @@ took_file() {
     [ -z "$cache" ] || printf '%s/house/took' "$cache"
 }
 
-# How long the last build on this machine took, that had something to prove; nothing where none is known.
+# How long the last build on this machine took, and of how many crates; nothing where none is known.
 last_time() {
     file=$(took_file)
     [ -n "$file" ] && [ -r "$file" ] && read -r seconds proved <"$file" 2>/dev/null \
-        && printf '; the last one on this machine took %s min, with %s crates to prove' "$((seconds / 60))" "$proved"
+        && printf '; the last one on this machine took %s min, with %s of them new' "$((seconds / 60))" "$proved"
 }
 
 note_time() {
@@ -126,96 +136,102 @@ passed_time() {
     printf '%s min %s s' "$((seconds / 60))" "$((seconds % 60))"
 }
 
-# How far a crate is, from what the toolchain said of it so far.
-how_far() {
-    awk '/^so far: [0-9]+ of [0-9]+ functions/ { all = $5 } /^(fn|method) .*: proved/ { done++ }
-         END { if (all > 0 && done > 0) printf " (%d of %d functions)", done, all }' "$room/$1.log" 2>/dev/null
+# The crates of which the toolchain has not told the end.
+untold() {
+    for name in $crates; do
+        grep -q "^== $name\$" "$room/all" || printf '%s ' "$name"
+    done
+}
+
+# Those of them that are not kept from an earlier build either.
+left_over() {
+    for name in $(untold); do
+        stamp=$here/crates/$name/out/rlib/stamp
+        [ -e "$stamp" ] && [ -z "$(find "$here/crates/$name" -path '*/out' -prune -o -type f -newer "$stamp" -print -quit)" ] \
+            || printf '%s ' "$name"
+    done
+}
+
+# Those of them that are at work: their library is begun; of a chain it is the first.
+at_work() {
+    if [ "$stage" = chain ]; then
+        printf '%s' "${left%% *}"
+        return
+    fi
+    for name in $left; do
+        out=$here/crates/$name/out/rlib
+        [ -d "$out" ] && [ ! -e "$out/stamp" ] && printf '%s ' "$name"
+    done
 }
 
 # Says how far the build is, where it got further, and every 20 seconds.
 tell() {
-    state="$proved of $total crates proved"
-    working=
-    for name in $running; do
-        working="$working, $name"
-        [ "$1" != fully ] || working="$working$(how_far "$name")"
-    done
-    [ -z "$working" ] || state="$state, now${working#,}"
-    [ "$state" != "$shown" ] || [ "$1" = fully ] || return 0
-    say "$state ($(passed_time))"
-    shown=$state
-    told_at=$(date +%s)
+    names=$(at_work)
+    state="$((total - $(echo "$left" | wc -w))) of $total crates proved${names:+, now ${names% }}"
+    [ "$stage" = chain ] || [ -n "$names" ] || [ -s "$room/all" ] || state="$state, reading all"
+    if [ "$state" != "$shown" ] || [ $(($(date +%s) - told_at)) -ge 20 ]; then
+        say "$state ($(passed_time))"
+        shown=$state
+        told_at=$(date +%s)
+    fi
 }
 
 # ------------------------------------------------------------------------------------------------------ the build
 
-# Starts what follows the name, in a group of its own, with its output in the crate's log.
+# Starts the toolchain in a folder of the checkout, with its output in a file. What it starts itself ends with it.
 begin() {
-    name=$1
-    shift
-    # shellcheck disable=SC2016
-    $apart sh -c 'cd "$1" || exit 1; ended=$2; shift 2; "$@" </dev/null; echo $? >"$ended.new"; mv "$ended.new" "$ended"' \
-        sh "$here/crates/$name" "$room/$name.ended" "$@" >"$room/$name.log" 2>&1 &
-    groups="$groups $!"
-    running="$running $name"
-    date +%s >"$room/$name.begun"
+    (cd "$here/$1" && shift 2 && exec "$@") >"$room/$2" 2>&1 &
+    maker=$!
 }
 
-# Takes the crates that ended out of those that run; answers no where one was not proved. A crate that took five
-# seconds or more was not kept.
-collect() {
-    still=
-    for name in $running; do
-        if [ ! -e "$room/$name.ended" ]; then
-            still="$still $name"
-        elif [ "$(cat "$room/$name.ended")" = 0 ]; then
-            done_crates="$done_crates$name "
-            proved=$((proved + 1))
-            [ $(($(date +%s) - $(cat "$room/$name.begun"))) -lt 5 ] || anew=$((anew + 1))
-        else
-            failed=$name
+# All crates side by side, until those that are left stand on one another: then it is stopped, since it would prove
+# each of them on one processor. What is under way for longer is waited for.
+prove_wide() {
+    stage=wide
+    # shellcheck disable=SC2046
+    is_chain $(untold) && return 0
+    begin . all rt all check --jobs "$jobs" </dev/null
+    while kill -0 "$maker" 2>/dev/null; do
+        before=" $names"
+        left=$(left_over)
+        tell
+        chain=$(untold)
+        # shellcheck disable=SC2086
+        if [ "$jobs" -gt 1 ] && [ "${before#* "${chain%% *}" }" = "$before" ] && is_chain $chain; then
+            kill "$maker" 2>/dev/null
+            wait "$maker"
+            maker=
+            return 0
         fi
+        sleep 1 &
+        wait $!
     done
-    [ "$still" = "$running" ] || has_changed=yes
-    running=$still
-    [ -z "$failed" ]
+    has_failed=no
+    wait "$maker" || has_failed=yes
+    maker=
+    [ "$has_failed" = no ] || lose all "a crate was not proved"
 }
 
-# Starts crates whose libraries stand, as long as there are jobs. What can run beside nothing gets all of them.
-start_ready() {
-    ready=
-    left=
-    for name in $pending; do
-        lacking=
-        for below in $(named_by "$name"); do
-            case $done_crates in *" $below "*) ;; *) lacking=$below ;; esac
-        done
-        if [ -z "$lacking" ]; then ready="$ready $name"; else left="$left $name"; fi
+# What is left, one after another with all processors for each, and then the program. The stored run, of a call that
+# comes to its end, shows that what was built runs.
+prove_chain() {
+    stage=chain
+    begin crates/house_cli chain rt run --jobs "$jobs" -- run <"$here/crates/house_cli/stdin"
+    while kill -0 "$maker" 2>/dev/null; do
+        left=$(left_over)
+        tell
+        sleep 1 &
+        wait $!
     done
-    pending=$left
-    set -- $ready
-    busy=$(echo "$running" | wc -w)
-    share=$((jobs / (busy + $# > 0 ? busy + $# : 1)))
-    [ "$share" -ge 1 ] || share=1
-    for name in "$@"; do
-        if [ "$busy" -ge "$jobs" ]; then
-            pending="$name $pending"
-        elif [ "$name" = house_cli ]; then
-            # The stored run, of a call that comes to its end, shows that what was built runs.
-            begin "$name" sh -c 'rt run --jobs "$1" -- run <stdin' sh "$share"
-            busy=$((busy + 1))
-        else
-            begin "$name" rt lib --jobs "$share"
-            busy=$((busy + 1))
-        fi
-    done
+    has_failed=no
+    wait "$maker" || has_failed=yes
+    maker=
+    [ "$has_failed" = no ] || lose chain "a crate was not proved, or the program not linked"
 }
 
-end_groups() {
-    for group in $groups; do
-        kill -s TERM -- "-$group" 2>/dev/null || kill "$group" 2>/dev/null
-    done
-    groups=
+lose() {
+    tail -n 60 "$room/$1" >&2
+    give_up "$2; above is the end of what the toolchain said"
 }
 
 build() {
@@ -227,35 +243,22 @@ build() {
         return 0
     fi
     room=$(mktemp -d) || give_up "no temporary folder"
+    : >"$room/all"
     of_sources=$(sources_sum)
     begun=$(date +%s)
     jobs=$(side_by_side)
-    apart=
-    command -v setsid >/dev/null 2>&1 && apart=setsid
-    pending=$crates running='' done_crates=' ' proved=0 anew=0 failed='' shown='' told_at=$begun has_changed=yes
     total=$(echo "$crates" | wc -w)
-    say "proving and building the program: $total crates, up to $jobs side by side$(last_time)"
+    shown='' names='' told_at=$begun
+    new=$(left_over | wc -w)
+    say "proving and building the program: $total crates, $new of them new here, up to $jobs side by side$(last_time)"
     say "a first build took 23 minutes on four processors; what was proved is kept, also if this is stopped"
-    while :; do
-        collect || break
-        [ "$has_changed" = no ] || start_ready
-        has_changed=no
-        [ -n "$running$pending" ] || break
-        if [ $(($(date +%s) - told_at)) -ge 20 ]; then tell fully; else tell briefly; fi
-        sleep 0.3 &
-        wait $!
-    done
-    if [ -n "$failed" ]; then
-        end_groups
-        tail -n 60 "$room/$failed.log" >&2
-        give_up "$failed was not proved or linked; above is the end of what the toolchain said"
-    fi
+    prove_wide
+    prove_chain
     [ -x "$program" ] || give_up "the toolchain left no program"
     keep_record "$of_sources"
     seconds=$(($(date +%s) - begun))
-    [ "$seconds" -lt 60 ] || note_time "$seconds" "$anew"
+    [ "$seconds" -lt 60 ] || note_time "$seconds" "$new"
     say "built in $(passed_time)"
-    groups=
     rm -rf "$room"
     room=
     exec 9>&-

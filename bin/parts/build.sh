@@ -143,6 +143,16 @@ untold() {
     done
 }
 
+# Whether each library of which the end was told is proved: it has a stamp then.
+are_well() {
+    for name in $crates; do
+        [ "$name" = house_cli ] || [ -e "$here/crates/$name/out/rlib/stamp" ] || case " $chain" in
+            *" $name "*) ;;
+            *) return 1 ;;
+        esac
+    done
+}
+
 # Those of them that are not kept from an earlier build either.
 left_over() {
     for name in $(untold); do
@@ -197,7 +207,8 @@ prove_wide() {
         tell
         chain=$(untold)
         # shellcheck disable=SC2086
-        if [ "$jobs" -gt 1 ] && [ "${before#* "${chain%% *}" }" = "$before" ] && is_chain $chain; then
+        if [ "$jobs" -gt 1 ] && [ -n "$chain" ] && [ "${before#* "${chain%% *}" }" = "$before" ] && is_chain $chain \
+            && are_well; then
             kill "$maker" 2>/dev/null
             wait "$maker"
             maker=

@@ -157,8 +157,10 @@ are_well() {
 left_over() {
     for name in $(untold); do
         stamp=$here/crates/$name/out/rlib/stamp
-        [ -e "$stamp" ] && [ -z "$(find "$here/crates/$name" -path '*/out' -prune -o -type f -newer "$stamp" -print -quit)" ] \
-            || printf '%s ' "$name"
+        if [ ! -e "$stamp" ] \
+            || [ -n "$(find "$here/crates/$name" -path '*/out' -prune -o -type f -newer "$stamp" -print -quit)" ]; then
+            printf '%s ' "$name"
+        fi
     done
 }
 

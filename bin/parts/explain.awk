@@ -124,10 +124,14 @@ function on_form(verb,    low, i, b) {
         return "`" verb "` is no command; there are call, applicant, conflict, place, partition, pair, seal, assign, " \
             "close, draw and lottery, and review lines begin with `review`"
     }
-    if (verb != "seal" || words != 2) return "it has " words - 1 " words behind `" verb "`, and is written `" usage[verb] "`"
+    if (verb != "seal" || words != 2) {
+        return "it has " words - 1 " words behind `" verb "`, and is written `" usage[verb] "`"
+    }
     for (i = 0; i < width[2]; i++) {
         b = byte[from[2] + i]
-        if (!is_digit(b) && (b < 97 || b > 102)) return "the digest has " shown(b) " as byte " i + 1 ", and digits are 0-9 and a-f"
+        if (!is_digit(b) && (b < 97 || b > 102)) {
+            return "the digest has " shown(b) " as byte " i + 1 ", and digits are 0-9 and a-f"
+        }
     }
     return "the digest has " width[2] " digits, and 64 are wanted"
 }
@@ -160,7 +164,9 @@ function on_unknown(verb) {
         }
         return "no `applicant` line before this one names a person `" word[2] "`"
     }
-    if (word[3] in own) return "`" word[3] "` is a person, and here an applicant is named: its applicants are" names[word[3]]
+    if (word[3] in own) {
+        return "`" word[3] "` is a person, and here an applicant is named: its applicants are" names[word[3]]
+    }
     return "no `applicant` line before this one names an applicant `" word[3] "`"
 }
 
@@ -185,7 +191,9 @@ function on_invalid(    i, line, r, p, wanted, reviewed, gives) {
         p = proposal[i]
         gives[r]++
         reviewed[p]++
-        if ((r, p) in barred) return "`pair " r " " p "` of line " pair_line[i] " is barred by the conflict of line " barred[r, p]
+        if ((r, p) in barred) {
+            return "`pair " r " " p "` of line " pair_line[i] " is barred by the conflict of line " barred[r, p]
+        }
         if (r in cluster_of && cluster_of[r] == cluster_of[person_of[p]]) {
             return "`pair " r " " p "` of line " pair_line[i] " lies within cluster " cluster_of[r]
         }
@@ -193,11 +201,15 @@ function on_invalid(    i, line, r, p, wanted, reviewed, gives) {
     for (i = 1; i <= persons; i++) {
         r = people[i]
         wanted = reviews * own[r]
-        if (gives[r] + 0 != wanted) return "`" r "` stands in " gives[r] + 0 " pairs as a reviewer, and has to in " wanted
+        if (gives[r] + 0 != wanted) {
+            return "`" r "` stands in " gives[r] + 0 " pairs as a reviewer, and has to in " wanted
+        }
     }
     for (i = 1; i <= count; i++) {
         p = applicants[i]
-        if (reviewed[p] + 0 != reviews + 0) return "`" p "` is reviewed in " reviewed[p] + 0 " pairs, and has to be in " reviews
+        if (reviewed[p] + 0 != reviews + 0) {
+            return "`" p "` is reviewed in " reviewed[p] + 0 " pairs, and has to be in " reviews
+        }
     }
     return ""
 }

@@ -3,16 +3,26 @@
 # A word as it can be typed into a shell.
 quoted() {
     case $1 in
-        '' | *[!A-Za-z0-9_./,:=@%+-]*) printf "'%s'" "$(printf '%s' "$1" | sed "s/'/'\\\\''/g" | LC_ALL=C tr '\1-\37\177' '?')" ;;
+        '' | *[!A-Za-z0-9_./,:=@%+-]*)
+            printf "'%s'" "$(printf '%s' "$1" | sed "s/'/'\\\\''/g" | LC_ALL=C tr '\1-\37\177' '?')"
+            ;;
         *) printf '%s' "$1" ;;
     esac
 }
 
-# Whether a program has the words; says what is wrong where it has not.
+# The forms of words that the program has: how many there are, and the first.
+is_form() {
+    case $#:${1-} in
+        1:run | 1:feasible | 1:pairs) ;;
+        *) return 1 ;;
+    esac
+}
+
+# Whether the program has the words; says what is wrong where it has not.
 are_words() {
+    is_form "$@" && return 0
     case ${1-} in
         run | feasible | pairs)
-            [ $# -gt 1 ] || return 0
             if [ -e "$2" ]; then
                 say "the file goes to standard input: bin/house $1 < $(quoted "$2")"
             else
@@ -36,21 +46,34 @@ are_words() {
     return 1
 }
 
-# What the first bytes of the input show, where it is no file of plain lines; nothing else.
+# What the bytes show with which the input in the file $1 begins, or those of the refused line, where they are not of
+# plain lines; nothing else.
 off_encoding() {
-    begin=$(head -c 4096 "$1" | od -An -v -tu1 | tr -s ' \n' '  ')
-    case $begin in
-        ' 239 187 191'*) echo "the input begins with a byte order mark, which belongs to its first word; without it: tail -c +4 FILE" ;;
-        ' 255 254'* | ' 254 255'*) echo "the input is UTF-16, two bytes a letter; to make plain text of it: iconv -f UTF-16 -t UTF-8 FILE" ;;
-        *' 0 '*) echo "the input has zero bytes, and so it is no plain text; UTF-16 becomes plain by: iconv -f UTF-16LE -t UTF-8 FILE" ;;
-        *' 10 '*) ;;
-        *' 13 '[0-9]*) echo "the input has CR as the end of its lines, as old Macs wrote it; LF is wanted: tr '\\r' '\\n' < FILE" ;;
+    case $(head -c 3 "$1" | od -An -v -tu1) in
+        ' 239 187 191')
+            echo "the input begins with a byte order mark, which belongs to its first word; without it: tail -c +4 FILE"
+            return
+            ;;
+        ' 255 254'* | ' 254 255'*)
+            echo "the input is UTF-16, two bytes a letter; to make plain text of it: iconv -f UTF-16 -t UTF-8 FILE"
+            return
+            ;;
+    esac
+    case "$2 " in
+        ' 239 187 191'*) echo "the line begins with a byte order mark, as a file does that was appended" ;;
+        *' 0 '*) echo "the line has zero bytes, as UTF-16 has, and so it is no plain text" ;;
+        *' 13 '[0-9]*)
+            printf '%s\n' "the line has CR within it; where CR ends lines, as old Macs wrote them: tr '\\r' '\\n' < FILE"
+            ;;
     esac
 }
 
 # The clusters that a seed draws, a line PERSON CLUSTER for each person of the prepared input.
 draw_clusters() {
-    awk -v number="$2" '{ sub(/\001$/, "") } NR >= number { exit } $1 == "applicant" { who = NF > 2 ? $3 : $2; if (!(who in seen)) print who; seen[who] }' "$1" \
+    awk -v number="$2" '
+        { sub(/\001$/, "") }
+        NR >= number { exit }
+        $1 == "applicant" { who = NF > 2 ? $3 : $2; if (!(who in seen)) print who; seen[who] }' "$1" \
         | while read -r person; do
             digest=$(printf 'partition:%s:%s' "$3" "$person" | sha256sum)
             printf '%s %s\n' "${digest%% *}" "$person"
@@ -69,7 +92,8 @@ show_refused() {
         return
     fi
     : >"$room/drawn"
-    bytes=$(LC_ALL=C sed -n "$number{p;q;}" "$input" | head -c 2000 | od -An -v -tu1 | tr -s ' \n' '  ' | sed 's/ 10 *$//')
+    bytes=$(LC_ALL=C sed -n "$number{p;q;}" "$input" | head -c 2000 | od -An -v -tu1 | tr -s ' \n' '  ' \
+        | sed 's/ 10 *$//')
     LC_ALL=C tr '\15' '\1' <"$input" | LC_ALL=C tr -c '\1\11\12\40-\176' '?' >"$room/plain"
     line=$(sed -n "$number{p;q;}" "$room/plain" | tr -d '\1' | cut -c 1-160)
     if [ -n "$line" ]; then
@@ -80,13 +104,11 @@ show_refused() {
         say "the input is refused at its end, behind its line $((number - 1))"
     fi
     say "$reason: $(meaning "$reason")"
-    off=$(off_encoding "$input")
-    case $bytes in
-        ' 239 187 191'*) [ -n "$off" ] || off="the line begins with a byte order mark, as a file does that was appended" ;;
-    esac
+    off=$(off_encoding "$input" "$bytes")
     if [ -z "$off" ]; then
         if [ "$reason" = invalid ]; then
-            seed=$(awk -v number="$number" '{ sub(/\001$/, "") } NR >= number { exit } $1 == "partition" { print $2 }' "$room/plain")
+            seed=$(awk -v number="$number" '{ sub(/\001$/, "") } NR >= number { exit } $1 == "partition" { print $2 }' \
+                "$room/plain")
             clusters=$(awk '{ sub(/\001$/, "") } $1 == "call" { print $3; exit }' "$room/plain")
             [ -z "$seed" ] || draw_clusters "$room/plain" "$number" "$seed" "$clusters" >"$room/drawn"
         fi

@@ -10,8 +10,6 @@ mod hearing;
 mod input;
 mod output;
 mod status;
-#[cfg(test)]
-mod tests;
 mod words;
 
 pub use call::house;

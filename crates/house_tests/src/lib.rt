@@ -1,0 +1,18 @@
+//! Tests of whole calls of the program, each a row of a table. The crate holds nothing else.
+
+#![tactic(auto)]
+
+#[cfg(test)]
+mod adapters;
+#[cfg(test)]
+mod answers;
+#[cfg(test)]
+mod case;
+#[cfg(test)]
+mod faults;
+#[cfg(test)]
+mod inputs;
+#[cfg(test)]
+mod limits;
+#[cfg(test)]
+mod memory;

@@ -1,5 +1,6 @@
 //! A call of the program as a row of a table: what it is given, and how it has to end.
 
+use house_base::Memory;
 use house_io::{Files, LoadFault, MapShelf, TextSink, TextSource};
 use house_top::{Status, house};
 use std::alloc::Global;
@@ -50,28 +51,41 @@ pub const RUN: Case<'static> = Case {
 
 /// How a call ended, and what it left.
 #[derive(Drop)]
-pub struct Ended {
-    pub status: Status,
-    pub output: TextSink,
-    pub shelf: MapShelf,
+struct Ended {
+    status: Status,
+    output: TextSink,
+    shelf: MapShelf,
 }
 
-impl Ended {
-    /// What was given, as far as it fits the room.
-    pub fn text(&self) -> Result<&str, Fail> {
-        Ok(str::from_utf8(self.output.given())?)
-    }
-}
-
+/// How many bytes the output of a call may have.
 const ROOM: usize = 65_536;
 
 impl Case<'_> {
     /// Makes the call, and compares how it ends with what the row says.
     pub fn check<R: Abort + AllocGlobal>(&self, rt: &R) -> Result<(), Fail> {
-        let ended = self.end(rt.alloc())?;
+        self.check_failing(rt, self.failing_takes, self.failing_gives)
+    }
+
+    /// The same, with these takes and these gives in the place of those that fail by the row.
+    pub fn check_failing<R: Abort + AllocGlobal>(
+        &self,
+        rt: &R,
+        takes: &[u64],
+        gives: &[u64],
+    ) -> Result<(), Fail> {
+        let ended = self.end(rt.alloc(), takes, gives)?;
         let (name, piece) = (self.name, self.piece);
-        assert_eq!(rt; ended.status, self.status, "{name}, in pieces of {piece}");
-        assert_eq!(rt; ended.text()?, self.text, "{name}, in pieces of {piece}");
+        assert_eq!(rt;
+            ended.status,
+            self.status,
+            "{name}, pieces of {piece}, failing {takes:?} {gives:?}"
+        );
+        let text = str::from_utf8(ended.output.given())?;
+        assert_eq!(rt;
+            text,
+            self.text,
+            "{name}, pieces of {piece}, failing {takes:?} {gives:?}"
+        );
         self.check_files(rt, ended.shelf)
     }
 
@@ -91,13 +105,11 @@ impl Case<'_> {
         Ok(())
     }
 
-    /// Makes the call.
-    pub fn end(&self, alloc: Global) -> Result<Ended, Fail> {
+    fn end(&self, alloc: Global, takes: &[u64], gives: &[u64]) -> Result<Ended, Fail> {
         let words = texts(alloc, self.words)?;
-        let takes = self.failing_takes.to_vec(alloc)?;
-        let mut input = TextSource::new(self.input.to_vec(alloc)?, self.piece.max(1), takes);
-        let gives = self.failing_gives.to_vec(alloc)?;
-        let mut output = TextSink::new(alloc, ROOM, self.piece.max(1), gives)?;
+        let piece = self.piece.max(1);
+        let mut input = TextSource::new(self.input.to_vec(alloc)?, piece, takes.to_vec(alloc)?);
+        let mut output = TextSink::new(alloc, ROOM, piece, gives.to_vec(alloc)?)?;
         let mut shelf = self.shelf(alloc)?;
         let status = house(alloc, &words, &mut input, &mut output, &mut shelf);
         Ok(Ended {
@@ -107,7 +119,7 @@ impl Case<'_> {
         })
     }
 
-    fn shelf(&self, alloc: Global) -> Result<MapShelf, Fail> {
+    fn shelf(&self, alloc: Global) -> Result<MapShelf, Memory> {
         let mut shelf = MapShelf::new(self.failing_files.to_vec(alloc)?);
         for &(name, bytes) in self.files {
             put(alloc, &mut shelf, name, bytes)?;
@@ -130,9 +142,9 @@ impl Case<'_> {
 }
 
 /// Puts a file on a shelf.
-fn put(alloc: Global, shelf: &mut MapShelf, name: &str, bytes: &[u8]) -> Result<(), Fail> {
-    shelf.put(alloc, name, bytes.to_vec(alloc)?)?;
-    Ok(())
+fn put(alloc: Global, shelf: &mut MapShelf, name: &str, bytes: &[u8]) -> Result<(), Memory> {
+    let copy = bytes.to_vec(alloc)?;
+    shelf.put(alloc, name, copy)
 }
 
 /// These words, as a program gets them.

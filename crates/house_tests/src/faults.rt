@@ -58,3 +58,39 @@ fn tell_faults(rt: HostRuntime) -> Result<(), Fail> {
     }
     Ok(())
 }
+
+#[test]
+fn give_nothing_whichever_take_fails(rt: HostRuntime) -> Result<(), Fail> {
+    for (piece, last) in [(1, 169), (8, 22), (4096, 2)] {
+        let case = Case {
+            name: "a take fails",
+            input: FOUR_APPLICANTS,
+            piece,
+            status: Status::ReadFault,
+            ..RUN
+        };
+        for take in 1..=last {
+            case.check_failing(&rt, &[take], &[])?;
+        }
+    }
+    Ok(())
+}
+
+#[test]
+fn give_a_front_whichever_give_fails(rt: HostRuntime) -> Result<(), Fail> {
+    for (piece, gives) in [(1_usize, 457), (10, 46), (4096, 1)] {
+        for passed in 0..gives {
+            let front = FOUR_REPORT.get(..piece.saturating_mul(passed));
+            let case = Case {
+                name: "a give fails",
+                input: FOUR_APPLICANTS,
+                piece,
+                status: Status::WriteFault,
+                text: front.ok_or("the report is shorter")?,
+                ..RUN
+            };
+            case.check_failing(&rt, &[], &[passed as u64 + 1])?;
+        }
+    }
+    Ok(())
+}

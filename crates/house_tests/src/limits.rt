@@ -20,7 +20,7 @@ fn stop_reading_where_the_run_ends(rt: HostRuntime) -> Result<(), Fail> {
 }
 
 #[test]
-fn stop_reading_at_the_limit(rt: HostRuntime) -> Result<(), Fail> {
+fn take_as_many_bytes_as_are_allowed(rt: HostRuntime) -> Result<(), Fail> {
     let comment = vec![in rt.alloc(); b'#'; 16_777_217]?;
     let over = Case {
         name: "a comment that is a byte too long",
@@ -35,6 +35,27 @@ fn stop_reading_at_the_limit(rt: HostRuntime) -> Result<(), Fail> {
         input: comment.split_last().ok_or("empty")?.1,
         status: Status::Refused(2, Reason::NoCall),
         text: "refused 2 no-call\n",
+        ..RUN
+    };
+    within.check(&rt)
+}
+
+#[test]
+fn take_as_many_lines_as_are_allowed(rt: HostRuntime) -> Result<(), Fail> {
+    let lines = vec![in rt.alloc(); b'\n'; 1_048_577]?;
+    let over = Case {
+        name: "a line too many",
+        input: &lines,
+        status: Status::TooLong,
+        text: "too-long\n",
+        ..RUN
+    };
+    over.check(&rt)?;
+    let within = Case {
+        name: "all lines that are allowed",
+        input: lines.split_last().ok_or("empty")?.1,
+        status: Status::Refused(1_048_577, Reason::NoCall),
+        text: "refused 1048577 no-call\n",
         ..RUN
     };
     within.check(&rt)

@@ -41,7 +41,7 @@ no-lines : (r : List ℕ) (lines : List (List ℕ)) → AreRecords r lines → r
 no-lines r [] hold e = refl
 no-lines r (l ∷ lines) hold e = let heads : hold.0 ∷ (to_be_bytes w32 (length l) ++ l ++ hold.1) ≡ [] = sym hold.4 ∙ e in absurd (cc)
 
-short-closed : (bytes : List ℕ) (lines : List (List ℕ)) (gate : ℕ) → length bytes ≤ 1 → IsClosedAt gate bytes lines → lines ≡ []
+pub short-closed : (bytes : List ℕ) (lines : List (List ℕ)) (gate : ℕ) → length bytes ≤ 1 → IsClosedAt gate bytes lines → lines ≡ []
 short-closed bytes lines gate short z =
     no-lines z.records lines z.hold (nil_from_length z.records (omega (arith, short, ap length z.parts, length-append z.records (0 ∷ z.behind))))
 

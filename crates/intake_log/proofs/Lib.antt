@@ -2,3 +2,9 @@ pub mod JournalLemmas
 pub mod DeterminedLemmas
 pub mod LogLemmas
 pub mod EntryLemmas
+pub mod ScanLemmas
+pub mod FrontLemmas
+pub mod FormLemmas
+pub mod LoopLemmas
+pub mod FoundLemmas
+pub mod StartLemmas

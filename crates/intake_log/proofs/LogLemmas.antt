@@ -1,6 +1,8 @@
 -- A log's gate, its limits, and what it keeps.
-use Rattle.std.proofs.Common.{◌≡◌, ◌⊎◌, inl, inr, ℕ, ◌+◌, ◌*◌, ◌-◌, ◌≤◌, ◌<◌, ◌^◌, Bool, true, false, List, [], ◌∷◌, ◌++◌, length, take, refl, sym, subst, arith, Option, Some, None, IsTrue, is_some, Result, Ok, Err, OnOk, is_err}
+use Rattle.std.proofs.Common.{◌≡◌, ◌⊎◌, ◌↔◌, inl, inr, ⊎_elim, nat_le, Decides, ℕ, ◌+◌, ◌*◌, ◌-◌, ◌≤◌, ◌<◌, ◌^◌, Bool, true, false, List, [], ◌∷◌, ◌++◌, length, take, refl, sym, subst, arith, Option, Some, None, IsTrue, is_some, Result, Ok, Err, OnOk, is_err}
+use Rattle.std.proofs.lemmas.Bool.Decides.{nat_tests}
 use Rattle.std.proofs.lemmas.List.{length_push, take_at}
+use Rattle.disk_io.specs.Laws.{below_or}
 use Rattle.std.proofs.lemmas.List.Sums.{sum_by-cons, sum_by_push}
 use Rattle.house_model.specs.declared.limits.TheConstants.{MOST_BYTES, MOST_LINES}
 use Rattle.intake_log.specs.Journal.{IsBeforeOrAfter, IsKept, StandsFor, records_size}
@@ -25,17 +27,29 @@ text_size-push lines line = sum_by_push (λ (line : List ℕ). length line + 1) 
 pub text-is : (lines : List (List ℕ)) (gate count : ℕ) → gate ≡ records_size lines → count ≡ length lines → gate ≡ text_size lines + 4 * count
 text-is lines gate count gate_is count_is = omega (arith, gate_is, count_is, records_size-is lines)
 
-pub full-by-size : (lines : List (List ℕ)) (line : List ℕ) (gate count : ℕ) → gate ≡ records_size lines → count ≡ length lines → MOST_BYTES ≤ gate - 4 * count + length line → IsFull lines line
+full-by-size : (lines : List (List ℕ)) (line : List ℕ) (gate count : ℕ) → gate ≡ records_size lines → count ≡ length lines → MOST_BYTES ≤ gate - 4 * count + length line → IsFull lines line
 full-by-size lines line gate count gate_is count_is most = inr (omega (arith, most, text-is lines gate count gate_is count_is))
 
-pub not-full : (lines : List (List ℕ)) (line : List ℕ) (gate count : ℕ) → gate ≡ records_size lines → count ≡ length lines → count < MOST_LINES → gate - 4 * count + length line < MOST_BYTES → IsFull lines line → ⊥
+not-full : (lines : List (List ℕ)) (line : List ℕ) (gate count : ℕ) → gate ≡ records_size lines → count ≡ length lines → count < MOST_LINES → gate - 4 * count + length line < MOST_BYTES → IsFull lines line → ⊥
 not-full lines line gate count gate_is count_is few fits (inl most) = omega (arith, few, most, count_is)
 not-full lines line gate count gate_is count_is few fits (inr most) = omega (arith, fits, most, text-is lines gate count gate_is count_is)
 
-pub room-for : (lines : List (List ℕ)) (line : List ℕ) (gate count : ℕ) → gate ≡ records_size lines → count ≡ length lines → count < MOST_LINES → gate - 4 * count + length line < MOST_BYTES → AreWithin (lines ++ line ∷ [])
-room-for lines line gate count gate_is count_is few fits = record {
-  count = omega (arith, length_push lines line, few, count_is);
-  size = omega (arith, text_size-push lines line, fits, text-is lines gate count gate_is count_is);
+-- where the number of lines leaves room, the bytes decide
+pub full-by-test : (lines : List (List ℕ)) (line : List ℕ) (gate count : ℕ) → gate ≡ records_size lines → count ≡ length lines → count < MOST_LINES
+    → IsTrue (nat_le MOST_BYTES (gate - 4 * count + length line)) ↔ IsFull lines line
+full-by-test lines line gate count gate_is count_is few = (
+  λ is. full-by-size lines line gate count gate_is count_is (test.0 is),
+  λ full. ⊎_elim test.1 (λ fits. absurd (not-full lines line gate count gate_is count_is few fits full)) (below_or MOST_BYTES (gate - 4 * count + length line)),
+)
+  where
+    test : Decides (nat_le MOST_BYTES (gate - 4 * count + length line)) (MOST_BYTES ≤ gate - 4 * count + length line)
+    test = grind (arith, nat_tests)
+
+-- lines that leave room for one more
+pub room-for : (lines : List (List ℕ)) (line : List ℕ) → (IsFull lines line → ⊥) → AreWithin (lines ++ line ∷ [])
+room-for lines line not-full = record {
+  count = ⊎_elim (λ most. absurd (not-full (inl most))) (λ few. omega (arith, few, length_push lines line)) (below_or MOST_LINES (length lines));
+  size = ⊎_elim (λ fits. omega (arith, fits, text_size-push lines line)) (λ most. absurd (not-full (inr most))) (below_or (text_size lines + (length line + 1)) MOST_BYTES);
 }
 
 -- the gate of lines within the limits

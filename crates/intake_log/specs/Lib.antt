@@ -1,3 +1,5 @@
 pub mod Journal
 pub mod Limits
 pub mod Log
+pub mod Scan
+pub mod Start

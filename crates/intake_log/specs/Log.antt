@@ -2,6 +2,7 @@
 use Rattle.std.specs.Prelude.{◌≡◌, ◌⊎◌, ℕ, Bool, true, List, Option, is_some, Result, Ok, Err, IsTrue}
 use Rattle.intake_log.specs.Journal.{IsKept, StandsFor, records_size}
 use Rattle.intake_log.specs.Limits.{AreWithin}
+use Rattle.intake_log.specs.declared.fault.Stopped.{Stopped}
 use Rattle.intake_log.specs.declared.fault.PutFault.{PutFault}
 use Rattle.intake_log.specs.declared.fault.PutFault.TheVariants.{Broken, Long, Full, Memory, Failed}
 
@@ -31,3 +32,8 @@ OnRefusal (Err Long) P = P
 OnRefusal (Err Full) P = P
 OnRefusal (Err Memory) P = P
 OnRefusal (Err Failed) P = Unit {0}
+
+-- a fact of the disk that is in a log, or was handed back
+abbrev pub OnDisk : {D : Type 0} → Result (Logged D) (Stopped D) → (D → Type 0) → Type 0
+OnDisk (Ok log) P = P log.disk
+OnDisk (Err stopped) P = P stopped.disk

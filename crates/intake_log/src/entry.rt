@@ -5,15 +5,9 @@ ghost use Rattle.disk_io.specs.Disk.{LeavesOnly};
 ghost use Rattle.house_io.specs.Faults.{Rose};
 ghost use Rattle.intake_log.specs.Journal.{IsBeforeOrAfter, IsJournalLine, IsKept, entry};
 
-use crate::limits::MOST_LINE_BYTES;
+use crate::limits::{LENGTH_BYTES, MOST_LINE_BYTES};
 use disk_io::Disk;
 use house_io::Failed;
-
-/// How many bytes stand before a line in its entry: its length.
-const LENGTH_BYTES: usize = 4;
-
-/// How many bytes an entry has beside its line: the length, and the gate behind it.
-pub(crate) const BESIDE_LINE: usize = LENGTH_BYTES + 1;
 
 /// Writes the length of a line, the line and a closed gate into a buffer of just their size.
 pub(crate) fn fill_entry(buf: &mut [u8], line: &[u8])

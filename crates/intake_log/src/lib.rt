@@ -6,8 +6,12 @@ mod entry;
 pub mod fault;
 pub mod journal_laws;
 pub mod limits;
+mod load;
 pub mod log;
+mod scan;
+#[cfg(test)]
+mod tests;
 
 pub use disk_io::{Disk, FileDisk, MemoryDisk};
-pub use fault::PutFault;
+pub use fault::{PutFault, StartFault, Stopped};
 pub use log::Log;

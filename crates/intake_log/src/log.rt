@@ -1,11 +1,12 @@
 //! A journal on a disk, to which lines are added.
 
-use crate::entry::{BESIDE_LINE, fill_entry, put_entry};
-use crate::fault::PutFault;
-use crate::limits::MOST_LINE_BYTES;
+use crate::entry::{fill_entry, put_entry};
+use crate::fault::{PutFault, StartFault, Stopped};
+use crate::limits::{BESIDE_LINE, MOST_LINE_BYTES, is_full};
+use crate::load::load;
 use command_text::Lines;
 use disk_io::Disk;
-use house_model::limits::{MOST_BYTES, MOST_LINES};
+use std::alloc::Global;
 use std::marker::Model;
 
 /// How many bytes the longest entry has.
@@ -33,13 +34,56 @@ impl<D: Disk> Model for Log<D> {
 }
 
 impl<D: Disk> Log<D> {
-    ghost use Rattle.std.specs.Prelude.{◌≡◌, ◌≢◌, ◌≤◌, ◌<◌, ◌∷◌, [], ◌++◌, ◌↔◌, ℕ, List, Some, true, false, is_some, IsErrOf, OnOk, OnErr, length};
+    ghost use Rattle.std.specs.Prelude.{◌≡◌, ◌≢◌, ◌≤◌, ◌<◌, ◌∷◌, [], ◌++◌, ◌↔◌, ℕ, List, Some, true, false, is_some, IsErrOf, IfErr, IfOk, IfSome, MatchResult, OnOk, OnErr, length};
+    ghost use Rattle.std.specs.Option.{option_map};
     ghost use Rattle.command_text.specs.Held.{HasNoFeed};
     ghost use Rattle.disk_io.specs.Disk.{LeavesOnly, Only};
     ghost use Rattle.house_io.specs.Faults.{Rose};
-    ghost use Rattle.intake_log.specs.Journal.{IsBeforeOrAfter, IsClosedAt};
+    ghost use Rattle.intake_log.specs.Journal.{IsBeforeOrAfter, IsClosedAt, StandsFor};
     ghost use Rattle.intake_log.specs.Limits.{AreWithin, IsFull};
-    ghost use Rattle.intake_log.specs.Log.{LeavesLines, OnRefusal};
+    ghost use Rattle.intake_log.specs.Log.{LeavesLines, OnDisk, OnRefusal};
+    ghost use Rattle.intake_log.specs.Scan.{found, settled};
+    ghost use Rattle.intake_log.specs.Scan.Scanned.{Ended, OffForm, Over};
+    ghost use Rattle.intake_log.specs.Start.{IsEarlierOrShort};
+
+    /// Starts on what a disk holds: it is made durable, with a closed gate in it where it has at most one byte, and
+    /// its lines are read.
+    pub fn start(alloc: Global, disk: D) -> Result<Log<D>, Stopped<D>>
+        // The lines are those of the file as it reads.
+        ensures lines { IfOk result (λ log. IfSome (D.content disk) (λ bytes. found bytes ≡ Ended log.lines)) }
+        ensures stands { IfOk result (λ log. IfSome (D.content disk) (λ bytes. StandsFor bytes log.lines)) }
+        ensures durable { IfOk result (λ log. LeavesLines D.content D.images log.disk log.lines) }
+        ensures unbroken { IfOk result (λ log. log.broken ≡ false) }
+
+        // When each other answer comes.
+        ensures bad_journal { IfErr result (λ stopped. (place : ℕ) → stopped.cause ≡ StartFault.BadJournal place →
+            IfSome (D.content disk) (λ bytes. found bytes ≡ OffForm place)) }
+        ensures full { IfErr result (λ stopped. stopped.cause ≡ StartFault.Full →
+            IfSome (D.content disk) (λ bytes. found bytes ≡ Over)) }
+        ensures failed { IfErr result (λ stopped. stopped.cause ≡ StartFault.Failed →
+            Rose (D.faults disk) (D.faults stopped.disk)) }
+
+        // What is left on the disk.
+        ensures settled { MatchResult result
+            (λ log. D.content log.disk ≡ option_map settled (D.content disk))
+            (λ stopped. stopped.cause ≢ StartFault.Failed →
+            D.content stopped.disk ≡ option_map settled (D.content disk)) }
+        ensures any_moment { (bytes : List ℕ) → D.content disk ≡ Some bytes → OnDisk result (λ now.
+            LeavesOnly D.moment D.images_since disk now (IsEarlierOrShort bytes (D.images disk))) }
+        ensures told { OnDisk result (λ now. is_some (D.content now) ≡ is_some (D.content disk)) }
+        ensures never_falls { OnDisk result (λ now. D.faults disk ≤ D.faults now) }
+    {
+        let mut disk = disk;
+        match load(alloc, &mut disk) {
+            Ok((lines, gate)) => Ok(Log {
+                disk,
+                lines,
+                gate,
+                broken: false,
+            }),
+            Err(cause) => Err(Stopped { disk, cause }),
+        }
+    }
 
     /// The lines, in the order in which they were put.
     pub fn lines(&self) -> &Lines
@@ -87,12 +131,7 @@ impl<D: Disk> Log<D> {
         if line.len() > MOST_LINE_BYTES {
             return Err(PutFault::Long);
         }
-        let count = self.lines.count();
-        if count >= MOST_LINES as u64 {
-            return Err(PutFault::Full);
-        }
-        let text = self.gate - 4 * count;
-        if text + line.len() as u64 >= MOST_BYTES as u64 {
+        if is_full(&self.lines, self.gate, line) {
             return Err(PutFault::Full);
         }
         Ok(())

@@ -1,0 +1,12 @@
+pub mod BackLemmas
+pub mod BytesLemmas
+pub mod ChainLemmas
+pub mod CountLemmas
+pub mod FormLemmas
+pub mod HeldLemmas
+pub mod PartLemmas
+pub mod PlaceLemmas
+pub mod PlainLemmas
+pub mod PrintedLemmas
+pub mod ReadingLemmas
+pub mod WrittenLemmas

@@ -1,0 +1,5 @@
+pub mod Chain
+pub mod File
+pub mod Form
+pub mod Reading
+pub mod Printed

@@ -1,0 +1,9 @@
+pub mod BallotLemmas
+pub mod CheckLemmas
+pub mod CountLemmas
+pub mod GiveLemmas
+pub mod HeadLemmas
+pub mod LawLemmas
+pub mod OpenedLemmas
+pub mod StrictLemmas
+pub mod WordPartLemmas

@@ -1,0 +1,4 @@
+pub mod Strict
+pub mod Slip
+pub mod Form
+pub mod Counted

@@ -190,9 +190,10 @@ tell() {
 
 # ------------------------------------------------------------------------------------------------------ the build
 
-# Starts the toolchain in a folder of the checkout, with its output in a file. What it starts itself ends with it.
+# Starts the toolchain in a folder of the checkout, with its output in a file and its input from one: what a shell starts
+# aside reads nothing unless it is told from where. What it starts itself ends with it.
 begin() {
-    (cd "$here/$1" && shift 2 && exec "$@") >"$room/$2" 2>&1 &
+    (cd "$here/$1" && shift 3 && exec "$@") <"$3" >"$room/$2" 2>&1 &
     maker=$!
 }
 
@@ -202,7 +203,7 @@ prove_wide() {
     stage=wide
     # shellcheck disable=SC2046
     is_chain $(untold) && return 0
-    begin . all rt all check --jobs "$jobs" </dev/null
+    begin . all /dev/null rt all check --jobs "$jobs"
     while kill -0 "$maker" 2>/dev/null; do
         before=" $names"
         left=$(left_over)
@@ -212,7 +213,7 @@ prove_wide() {
         if [ "$jobs" -gt 1 ] && [ -n "$chain" ] && [ "${before#* "${chain%% *}" }" = "$before" ] && is_chain $chain \
             && are_well; then
             kill "$maker" 2>/dev/null
-            wait "$maker"
+            wait "$maker" 2>/dev/null
             maker=
             return 0
         fi
@@ -229,7 +230,7 @@ prove_wide() {
 # comes to its end, shows that what was built runs.
 prove_chain() {
     stage=chain
-    begin crates/house_cli chain rt run --jobs "$jobs" -- run <"$here/crates/house_cli/stdin"
+    begin crates/house_cli chain "$here/crates/house_cli/stdin" rt run --jobs "$jobs" -- run
     while kill -0 "$maker" 2>/dev/null; do
         left=$(left_over)
         tell

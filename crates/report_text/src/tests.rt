@@ -1,8 +1,11 @@
-//! The texts of two outcomes and of a refusal.
+//! The texts of two outcomes, of a refusal and of refused files.
 
 ghost use Rattle.std.specs.Prelude.{◌≡◌, IfOk};
 
-use crate::{ApplicantRow, ClusterRow, Outcome, write_refused, write_report};
+use crate::{
+    ApplicantRow, ClusterRow, Outcome, write_bad_key, write_bad_record, write_bad_toml,
+    write_refused, write_report,
+};
 use house_base::{Asides, Call, Name, Reason};
 use std::alloc::Global;
 use std::test::Fail;
@@ -118,6 +121,9 @@ applicant a cluster 1 rank 1 cents 1000000 chance 2000000/2000000 yes
 applicant b cluster 2 rank 1 cents 1000000 chance 2000000/2000000 yes
 empty 3
 refused 18 range
+bad toml
+bad key seats
+bad record 3
 ";
 
 #[test]
@@ -127,6 +133,9 @@ fn texts_stand_one_after_another(rt: HostRuntime) -> Result<(), Fail> {
     write_report(alloc, &three_persons(alloc)?, &mut out)?;
     write_report(alloc, &two_alone(alloc)?, &mut out)?;
     write_refused(alloc, 18, Reason::Range, &mut out)?;
+    write_bad_toml(alloc, &mut out)?;
+    write_bad_key(alloc, "seats", &mut out)?;
+    write_bad_record(alloc, 3, &mut out)?;
     assert_eq!(rt; out.as_slice(), TEXTS);
     Ok(())
 }

@@ -1,11 +1,11 @@
-//! The program `house`: runs a call on standard input, and writes its report to standard output. It prints
-//! nothing of its own.
+//! The program `house`: runs a call on standard input and the files that its words name, and writes its report to
+//! standard output. It prints nothing of its own.
 #![tactic(auto)]
 
-use house_io::{InputSource, MapShelf, OutputSink};
+use house_io::{FolderShelf, InputSource, OutputSink};
 use house_top::{Status, house};
 use std::process::ExitCode;
-use std::rt::Env;
+use std::rt::{Env, Files};
 use std::{env, io};
 
 fn main(rt: HostRuntime) -> ExitCode {
@@ -26,10 +26,10 @@ fn words<R: Env + AllocGlobal>(rt: &R) -> Result<Vec<String>, Status> {
     args.skip(1).collect(rt.alloc()).map_err(|_| Status::Memory)
 }
 
-/// Runs the program on its standard input and output, with no files.
-fn call<R: Input + Print + AllocGlobal>(rt: &R, words: &Vec<String>) -> Status {
+/// Runs the program on its standard input and output, and on the files of the current folder.
+fn call<R: Input + Print + Files + AllocGlobal>(rt: &R, words: &Vec<String>) -> Status {
     let mut input = InputSource::new(rt.reader());
     let mut output = OutputSink::new(io::writer(rt));
-    let mut shelf = MapShelf::new(Vec::new(rt.alloc()));
+    let mut shelf = FolderShelf::new(rt);
     house(rt.alloc(), words, &mut input, &mut output, &mut shelf)
 }

@@ -16,3 +16,5 @@ mod inputs;
 mod limits;
 #[cfg(test)]
 mod memory;
+#[cfg(test)]
+mod opened;

@@ -1,7 +1,7 @@
 -- The answer that lines come to, and the answer to an input of which they tell how it ends.
-use Rattle.std.proofs.Common.{◌≡◌, ◌≢◌, ℕ, ◌+◌, Bool, true, false, not, cond, ◌&&◌, ◌||◌, [], ◌∷◌, length, codes, Option, Some, None, Result, Ok, Err, refl, sym, ap, ◌∙◌, subst}
-use Rattle.std.specs.Prelude.{IfOk, IfSome, IsSomeAnd, is_some}
-use Rattle.std.specs.Option.{option_map, option_map_or}
+use Rattle.std.proofs.Common.{◌≡◌, ◌≢◌, ℕ, ◌+◌, Bool, true, false, not, cond, ◌&&◌, ◌||◌, [], ◌∷◌, ◌++◌, length, codes, Option, Some, None, Result, Ok, Err, refl, sym, ap, ◌∙◌, subst}
+use Rattle.std.specs.Prelude.{IfOk, IfSome, IsSomeAnd, IsTrue, is_some}
+use Rattle.std.specs.Option.{option_map_or}
 use Rattle.house_base.specs.declared.answer.Reason.{Reason}
 use Rattle.house_base.specs.declared.answer.Reason.TheVariants as reason
 use Rattle.house_base.specs.Setting.{Setting}
@@ -27,16 +27,14 @@ use Rattle.house_model.specs.Said.{has, phase_after, run_pairs, setting}
 use Rattle.house_model.specs.Text.{Lines}
 use Rattle.house_model.specs.Texts.{pairs_text, short_text}
 use Rattle.house_model.proofs.RunEndLemmas.{settled-parts}
-use Rattle.house_top.specs.declared.form.Form.TheVariants as form
 use Rattle.house_top.specs.declared.status.Status.{Status}
 use Rattle.house_top.specs.declared.status.Status.TheVariants as status
-use Rattle.house_top.proofs.EndLemmas.{never_drawn, taken_by}
-use Rattle.house_top.specs.declared.input.Heard.{Heard}
-use Rattle.house_top.specs.declared.input.Heard.TheVariants as run
-use Rattle.house_top.specs.Answer.{Answers, IsAnswered, IsAnswerTo, IsEndAnswer, IsHeardAnswer}
-use Rattle.house_top.specs.Due.{IsRunText, due_status, reported, status_of_end}
-use Rattle.house_top.specs.Given.{input_alone}
-use Rattle.house_top.specs.Hearing.{HearsWhereTold, HasSomeLines, TellsEnd}
+use Rattle.input_run.proofs.EndLemmas.{never_drawn, taken_by}
+use Rattle.input_run.specs.declared.input.Heard.{Heard}
+use Rattle.input_run.specs.declared.input.Heard.TheVariants as run
+use Rattle.house_top.specs.Answer.{AnswersRun, IsAnswerOfRun, IsEndAnswer, IsHeardAnswer, IsOfRun}
+use Rattle.house_top.specs.Due.{IsRunText, is_for_report, run_behind, status_of_end}
+use Rattle.input_run.specs.Hearing.{HearsWhereTold, HasSomeLines, TellsEnd}
 
 -- two facts of one result
 pub both : {A E : Type 0} {P Q R : A → Type 0} (r : Result A E) → IfOk r P → IfOk r Q → ((x : A) → P x → Q x → R x) → IfOk r R
@@ -179,58 +177,57 @@ pub goes_to_report : (lines : Lines) → end_of goal.Run lines ≡ Ended.Done �
 unfolding end_of ends_run
 goes_to_report lines done = ap (λ o. is_some o || false) (done_parts (stop_of (halt goal.Run) lines) (last_ended lines) done).0
 
-reported_call : (g : Goal) (input rest : Text) (lines : Lines) (s : Status) (text : Text) → TellsEnd g [] input rest lines → IsEndAnswer g lines s text → s ≡ status.Done →
-    IfSome (reported (Some (form.Input g)) (input_alone input)) AreOfCall
-reported_call goal.Run input rest lines s text tells answer done =
+reported_call : (g : Goal) (opening : Lines) (input rest : Text) (lines : Lines) (s : Status) (text : Text) → TellsEnd g opening input rest lines → IsEndAnswer g lines s text →
+    IsTrue (is_for_report g) → s ≡ status.Done → AreOfCall (opening ++ heard input)
+reported_call goal.Run opening input rest lines s text tells answer report done =
     let call = answer.of_call refl done in
     subst AreOfCall (sym (tells.all (goes_to_report lines call.done)).2) call
-reported_call goal.Pairs input rest lines s text tells answer done = tt
-reported_call goal.Feasible input rest lines s text tells answer done = tt
+reported_call goal.Pairs opening input rest lines s text tells answer report done = absurd (let wrong : ⊥ = cc in wrong)
+reported_call goal.Feasible opening input rest lines s text tells answer report done = absurd (let wrong : ⊥ = cc in wrong)
 
 -- lines that tell how an input ends give the answer to it
-answer_to_input : (g : Goal) (input rest : Text) (lines : Lines) (s : Status) (text : Text) → TellsEnd g [] input rest lines → IsEndAnswer g lines s text →
-    IsAnswerTo (Some (form.Input g)) (input_alone input) s text
-unfolding due_status
-answer_to_input g input rest lines s text tells answer = record {
+answer_to_input : (g : Goal) (opening : Lines) (input rest : Text) (lines : Lines) (s : Status) (text : Text) → TellsEnd g opening input rest lines → IsEndAnswer g lines s text →
+    IsAnswerOfRun (run_behind g opening) input s text
+answer_to_input g opening input rest lines s text tells answer = record {
   ends = answer.ends ∙ ap status_of_end (sym tells.due);
-  writes = subst (λ e. IsRunText e g (taken g (heard input)) text) (sym tells.due) (subst (λ ls. IsRunText (Some (end_of g lines)) g ls text) (sym tells.same_lines) answer.writes);
-  of_call = reported_call g input rest lines s text tells answer;
+  writes = subst (λ e. IsRunText e g (taken g (opening ++ heard input)) text) (sym tells.due)
+      (subst (λ ls. IsRunText (Some (end_of g lines)) g ls text) (sym tells.same_lines) answer.writes);
+  of_call = reported_call g opening input rest lines s text tells answer;
 }
 
--- lines come to an answer to what was asked for
-answered_end : (e : Option Ended) → IsAnswered (status_of_end e)
-answered_end (Some Ended.Done) = tt
-answered_end (Some (Ended.Refused line reason)) = tt
-answered_end (Some Ended.Short) = tt
-answered_end (Some Ended.Settled) = tt
-answered_end None = tt
+-- a run that has an answer ends in one of the ways that runs do
+pub of_run : (e : Option Ended) → IsOfRun (status_of_end e)
+of_run (Some Ended.Done) = tt
+of_run (Some (Ended.Refused line reason)) = tt
+of_run (Some Ended.Short) = tt
+of_run (Some Ended.Settled) = tt
+of_run None = tt
 
 -- where the source tells its bytes
-lines_answer : (g : Goal) (before after : Option Text) (lines : Lines) (s : Status) (text : Text) → IfSome before (λ input. IsSomeAnd after (λ rest. TellsEnd g [] input rest lines)) →
-    IsEndAnswer g lines s text → Answers (Some (form.Input g)) (option_map input_alone before) s text
-lines_answer g before after lines s text tells answer = record {
-  answered = subst IsAnswered (sym answer.ends) (answered_end (Some (end_of g lines)));
-  as_due = where_told before after tells;
+lines_answer : (g : Goal) (opening : Lines) (before after : Option Text) (lines : Lines) (s : Status) (text : Text) → IfSome before (λ input. IsSomeAnd after (λ rest. TellsEnd g opening input rest lines)) →
+    IsEndAnswer g lines s text → AnswersRun (run_behind g opening) before s text
+lines_answer g opening before after lines s text tells answer = record {
+  answered = subst IsOfRun (sym answer.ends) (of_run (Some (end_of g lines)));
+  as_run = where_told before after tells;
 }
   where
-    where_told : (before after : Option Text) → IfSome before (λ input. IsSomeAnd after (λ rest. TellsEnd g [] input rest lines)) →
-        IfSome (option_map input_alone before) (λ given. IsAnswerTo (Some (form.Input g)) given s text)
+    where_told : (before after : Option Text) → IfSome before (λ input. IsSomeAnd after (λ rest. TellsEnd g opening input rest lines)) →
+        IfSome before (λ input. IsAnswerOfRun (run_behind g opening) input s text)
     where_told None after tells = tt
     where_told (Some input) None tells = absurd tells
-    where_told (Some input) (Some rest) tells = answer_to_input g input rest lines s text tells answer
+    where_told (Some input) (Some rest) tells = answer_to_input g opening input rest lines s text tells answer
 
 -- the answer to an input that is too long
-too_long_answer : (g : Goal) (before : Option Text) (s : Status) (text : Text) → IfSome before (λ input. outcome g [] input ≡ None) → s ≡ status.TooLong → text ≡ line_of (codes "too-long" ∷ []) →
-    Answers (Some (form.Input g)) (option_map input_alone before) s text
-unfolding due_status
-too_long_answer g before s text over long writes = record { answered = subst IsAnswered (sym long) tt; as_due = where_told before over }
+too_long_answer : (g : Goal) (opening : Lines) (before : Option Text) (s : Status) (text : Text) → IfSome before (λ input. outcome g opening input ≡ None) → s ≡ status.TooLong →
+    text ≡ line_of (codes "too-long" ∷ []) → AnswersRun (run_behind g opening) before s text
+too_long_answer g opening before s text over long writes = record { answered = subst IsOfRun (sym long) tt; as_run = where_told before over }
   where
-    where_told : (before : Option Text) → IfSome before (λ input. outcome g [] input ≡ None) → IfSome (option_map input_alone before) (λ given. IsAnswerTo (Some (form.Input g)) given s text)
+    where_told : (before : Option Text) → IfSome before (λ input. outcome g opening input ≡ None) → IfSome before (λ input. IsAnswerOfRun (run_behind g opening) input s text)
     where_told None over = tt
     where_told (Some input) over = record {
       ends = long ∙ ap status_of_end (sym over);
-      writes = subst (λ e. IsRunText e g (taken g (heard input)) text) (sym over) writes;
-      of_call = λ done. absurd (let wrong : status.TooLong ≡ status.Done = sym long ∙ done in cc);
+      writes = subst (λ e. IsRunText e g (taken g (opening ++ heard input)) text) (sym over) writes;
+      of_call = λ report done. absurd (let wrong : status.TooLong ≡ status.Done = sym long ∙ done in cc);
     }
 
 never_short : (called drawn : Bool) (n : ℕ) → cond (not called) (Ended.Refused n reason.NoCall) (cond (not drawn) (Ended.Refused n reason.Unfinished) Ended.Done) ≢ Ended.Short
@@ -263,11 +260,11 @@ pub taken_done : (lines : Lines) → end_of goal.Run lines ≡ Ended.Done → ta
 taken_done lines done = taken_by goal.Run lines refl ∙ all_in_force lines done
 
 -- what was heard of an input gives the answer to it
-pub input_answer : (g : Goal) (before after : Option Text) (heard : Heard) (s : Status) (text : Text) → HearsWhereTold g [] before after heard → IsHeardAnswer g heard s text →
-    Answers (Some (form.Input g)) (option_map input_alone before) s text
-input_answer g before after (run.Lines house) s text (lines, has, tells) answer = lines_answer g before after lines s text tells (answer lines has)
-input_answer g before after run.TooLong s text over answer = too_long_answer g before s text over answer.0 answer.1
+pub input_answer : (g : Goal) (opening : Lines) (before after : Option Text) (heard : Heard) (s : Status) (text : Text) → HearsWhereTold g opening before after heard → IsHeardAnswer g heard s text →
+    AnswersRun (run_behind g opening) before s text
+input_answer g opening before after (run.Lines house) s text (lines, has, tells) answer = lines_answer g opening before after lines s text tells (answer lines has)
+input_answer g opening before after run.TooLong s text over answer = too_long_answer g opening before s text over answer.0 answer.1
 
-pub some_lines : (g : Goal) (before after : Option Text) (heard : Heard) → HearsWhereTold g [] before after heard → HasSomeLines g heard
-some_lines g before after (run.Lines house) (lines, has, tells) = (lines, has)
-some_lines g before after run.TooLong over = tt
+pub some_lines : (g : Goal) (opening : Lines) (before after : Option Text) (heard : Heard) → HearsWhereTold g opening before after heard → HasSomeLines g heard
+some_lines g opening before after (run.Lines house) (lines, has, tells) = (lines, has)
+some_lines g opening before after run.TooLong over = tt

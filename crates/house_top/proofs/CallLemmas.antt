@@ -1,6 +1,8 @@
 -- What is promised of a call, from the answer to what was asked.
-use Rattle.std.proofs.Common.{◌≡◌, ◌⊎◌, ℕ, Bool, true, false, ◌++◌, [], Option, Some, None, take, refl, sym, ap, ◌∙◌, subst, inl, inr, append-nil}
-use Rattle.std.specs.Prelude.{IfSome, IsSomeAnd}
+use Rattle.std.proofs.Common.{◌≡◌, ◌⊎◌, ℕ, Bool, true, false, not, cond, ◌++◌, [], List, Option, Some, None, Result, Ok, Err, take, refl, sym, ap, ◌∙◌, subst, inl, inr, append-nil}
+use Rattle.std.specs.Prelude.{All, IfSome, IsSomeAnd, option_and_then}
+use Rattle.std.specs.Option.{option_map}
+use Rattle.std.specs.Result.{result_ok}
 use Rattle.std.proofs.lemmas.Option.{IfSome_then}
 use Rattle.house_io.specs.Faults.{Rose}
 use Rattle.house_io.specs.Sink.{AppendsWhereTold}
@@ -16,21 +18,22 @@ use Rattle.house_model.specs.Text.{Lines, lines}
 use Rattle.house_model.proofs.HeadlineLemmas.{assigned_validly, counted, in_any_order, isolated, means, rounded, sealed, settled_validly}
 use Rattle.house_model.proofs.RunEndLemmas.{shortage-ends}
 use Rattle.house_model.proofs.SettledLemmas.{settled-some}
-use borrow.Enum.Total.{values_d}
-use Rattle.house_top.specs.contracts.form.Form.{enum as the_form}
 use Rattle.house_top.specs.declared.form.Form.{Form}
 use Rattle.house_top.specs.declared.form.Form.TheVariants as form
 use Rattle.house_top.specs.declared.status.Status.{Status}
 use Rattle.house_top.specs.declared.status.Status.TheVariants as status
 use Rattle.house_top.specs.Answer.{Answers, IsAnswerTo, IsAnswered, IsShortOrFault, IsWhole}
-use Rattle.house_top.specs.Due.{IsDueText, IsRunText, due_status, hears, reported, run_of, status_of_end}
+use Rattle.house_top.specs.Due.{IsDueText, IsRunText, IsTextOfRun, IsTextOpened, Run, due_status, end_of_run, hears, is_for_report, lines_of, opened_run, reported, run_behind, run_of}
+use Rattle.house_top.specs.Due.{status_of_end, status_of_run, status_opened}
 use Rattle.house_io.specs.Files.{Contents}
 use Rattle.house_top.specs.Given.{Given, told}
-use Rattle.house_top.specs.Promise.{Counts, EndsAsDue, IsDue, IsWellAssigned, KeepsThePromise, ReadsFarEnough, WritesWhatIsDue}
+use Rattle.house_top.specs.Opening.{opening_of}
+use Rattle.house_top.specs.Promise.{Counts, EndsAsDue, Faults, IsCaused, IsDue, IsWellAssigned, KeepsFiles, KeepsThePromise, LoadRose, ReadRose, ReadsFarEnough, WritesWhatIsDue}
+use Rattle.house_top.specs.Words.{loads}
 use Rattle.house_top.proofs.AnswerLemmas.{ends_short_of, goes_to_report, taken_done}
-use Rattle.house_top.proofs.EndLemmas.{never_drawn}
-use Rattle.house_top.proofs.FrontLemmas.{heard_within}
-use Rattle.house_top.proofs.TellLemmas.{outcome_by}
+use Rattle.input_run.proofs.EndLemmas.{never_drawn}
+use Rattle.input_run.proofs.FrontLemmas.{heard_within}
+use Rattle.input_run.proofs.TellLemmas.{outcome_by}
 
 -- A status is one of four kinds.
 
@@ -43,6 +46,7 @@ whole_answered status.ReadFault h = h
 whole_answered status.WriteFault h = h
 whole_answered status.Memory h = h
 whole_answered status.TooLong h = h
+whole_answered (status.BadFile why) h = h
 
 is_due : (d s : Status) → s ≡ d → IsDue d s
 is_due d status.Done h = h
@@ -53,6 +57,7 @@ is_due d status.ReadFault h = tt
 is_due d status.WriteFault h = tt
 is_due d status.Memory h = tt
 is_due d status.TooLong h = h
+is_due d (status.BadFile why) h = h
 
 not_usage : (s : Status) → IsAnswered s → s ≡ status.Usage → ⊥
 not_usage s answered is = subst IsAnswered is answered
@@ -80,16 +85,42 @@ for_told (Some x) h = h x
 RunsTo : Goal → Lines → Status → Type 0
 RunsTo g all s = (s ≡ status_of_end (Some (end_of g all))) ⊎ ((s ≡ status.TooLong) × (ends_run g all ≡ false))
 
-run_by : (g : Goal) (input : Text) (over ends : Bool) → is_over input ≡ over → ends_run g (heard input) ≡ ends → RunsTo g (heard input) (status_of_end (outcome g [] input))
+run_by : (g : Goal) (opening : Lines) (input : Text) (over ends : Bool) → is_over input ≡ over → ends_run g (opening ++ heard input) ≡ ends →
+    RunsTo g (opening ++ heard input) (status_of_end (outcome g opening input))
 unfolding RunsTo
-run_by g input false ends h e = inl (ap status_of_end (outcome_by g [] input false ends h e))
-run_by g input true true h e = inl (ap status_of_end (outcome_by g [] input true true h e))
-run_by g input true false h e = inr (ap status_of_end (outcome_by g [] input true false h e), e)
+run_by g opening input false ends h e = inl (ap status_of_end (outcome_by g opening input false ends h e))
+run_by g opening input true true h e = inl (ap status_of_end (outcome_by g opening input true true h e))
+run_by g opening input true false h e = inr (ap status_of_end (outcome_by g opening input true false h e), e)
+
+abbrev a_run : Goal → Lines → Bool → Bool → Run
+a_run g opening hears reports = record { goal = g; opening = opening; hears = hears; reports = reports }
+
+-- a run ends with its status
+run_ends : (g : Goal) (opening : Lines) (hears reports : Bool) (input : Text) → RunsTo g (lines_of (a_run g opening hears reports) input) (status_of_run (a_run g opening hears reports) input)
+unfolding RunsTo
+run_ends g opening true reports input = run_by g opening input (is_over input) (ends_run g (opening ++ heard input)) refl refl
+run_ends g opening false reports input = inl refl
+
+-- what is run of an opening, what is reported, and what is heard
+abbrev lines_by : Result Lines Status → Text → Option (Goal × Lines)
+lines_by opening input = option_map (λ run. (run.goal, lines_of run input)) (option_map opened_run (result_ok opening))
+
+abbrev report_by : Result Lines Status → Text → Option Lines
+report_by opening input = option_and_then (λ run. cond run.reports (Some (lines_of run input)) None) (option_map opened_run (result_ok opening))
+
+abbrev heard_by : Result Lines Status → Option (Goal × Lines)
+heard_by opening = option_and_then (λ run. cond run.hears (Some (run.goal, run.opening)) None) (option_map opened_run (result_ok opening))
+
+opened_ends : (opening : Result Lines Status) (input : Text) →
+    IfSome (lines_by opening input) (λ run. RunsTo run.0 run.1 (status_opened opening input))
+opened_ends (Ok opening) input = run_ends goal.Run opening (not (ends_run goal.Run opening)) true input
+opened_ends (Err s) input = tt
 
 due_runs : (asked : Option Form) (given : Given) → IfSome (run_of asked given) (λ run. RunsTo run.0 run.1 (due_status asked given))
 unfolding due_status
 due_runs None given = tt
-due_runs (Some (form.Input g)) given = run_by g given.input (is_over given.input) (ends_run g (heard given.input)) refl refl
+due_runs (Some (form.Input g)) given = run_ends g [] true (is_for_report g) given.input
+due_runs (Some form.Opened) given = opened_ends (opening_of given.files) given.input
 
 short_end : (e : Ended) → status_of_end (Some e) ≡ status.Short → e ≡ Ended.Short
 short_end Ended.Done h = absurd (let wrong : ⊥ = cc in wrong)
@@ -127,11 +158,18 @@ well_assigned g all s (inl ends) done call = by_goal g call (done_end (end_of g 
     by_goal goal.Feasible call (inr settled) = settled-some goal.Feasible all settled
 
 -- a run for the report is of lines whose report is written
+opened_is_reported : (opening : Result Lines Status) (input : Text) →
+    IfSome (report_by opening input) AreOfCall →
+    IfSome (lines_by opening input) (λ run. run.0 ≡ goal.Run → AreOfCall run.1)
+opened_is_reported (Ok opening) input call = λ run. call
+opened_is_reported (Err s) input call = tt
+
 run_is_reported : (asked : Option Form) (given : Given) → IfSome (reported asked given) AreOfCall → IfSome (run_of asked given) (λ run. run.0 ≡ goal.Run → AreOfCall run.1)
 run_is_reported None given call = tt
 run_is_reported (Some (form.Input goal.Run)) given call = λ run. call
 run_is_reported (Some (form.Input goal.Pairs)) given call = λ run. absurd (let wrong : ⊥ = cc in wrong)
 run_is_reported (Some (form.Input goal.Feasible)) given call = λ run. absurd (let wrong : ⊥ = cc in wrong)
+run_is_reported (Some form.Opened) given call = opened_is_reported (opening_of given.files) given.input call
 
 -- The reports of the forms.
 
@@ -146,30 +184,59 @@ done_run_text (Some Ended.Settled) all text done h = h
 done_run_text (Some (Ended.Refused line reason)) all text done h = absurd (let wrong : ⊥ = cc in wrong)
 done_run_text (Some Ended.Short) all text done h = absurd (let wrong : ⊥ = cc in wrong)
 
+-- the text of a run that comes to its report
+run_report : (run : Run) (input text : Text) → run.goal ≡ goal.Run → status_of_run run input ≡ status.Done → IsTextOfRun run input text → AreOfCall (lines_of run input) →
+    text ≡ report_of (lines_of run input)
+run_report run input text is done h call =
+    done_run_text (end_of_run run input) (taken goal.Run (lines_of run input)) text done
+    (subst (λ g. IsRunText (end_of_run run input) g (taken g (lines_of run input)) text) is h)
+    ∙ ap report_of (taken_done (lines_of run input) call.done)
+
+opened_report : (opening : Result Lines Status) (input text : Text) → status_opened opening input ≡ status.Done → IsTextOpened opening input text →
+    IfSome (report_by opening input) AreOfCall →
+    IfSome (report_by opening input) (λ all. text ≡ report_of all)
+opened_report (Ok opening) input text done h call = run_report (opened_run opening) input text refl done h call
+opened_report (Err s) input text done h call = tt
+
 -- the text that is due where a report is written is the report of its lines
 report_is_due : (asked : Option Form) (given : Given) (text : Text) → due_status asked given ≡ status.Done → IsDueText asked given text → IfSome (reported asked given) AreOfCall →
     IfSome (reported asked given) (λ all. text ≡ report_of all)
 unfolding due_status
 report_is_due None given text done h call = tt
-report_is_due (Some (form.Input goal.Run)) given text done h call =
-    done_run_text (outcome goal.Run [] given.input) (taken goal.Run (heard given.input)) text done h ∙ ap report_of (taken_done (heard given.input) call.done)
+report_is_due (Some (form.Input goal.Run)) given text done h call = run_report (run_behind goal.Run []) given.input text refl done h call
 report_is_due (Some (form.Input goal.Pairs)) given text done h call = tt
 report_is_due (Some (form.Input goal.Feasible)) given text done h call = tt
+report_is_due (Some form.Opened) given text done h call = opened_report (opening_of given.files) given.input text done h call
 
-not_over : (input : Text) (over : Bool) → is_over input ≡ over → ends_run goal.Run (heard input) ≡ false → status_of_end (outcome goal.Run [] input) ≡ status.Done → is_over input ≡ false
-not_over input false h goes done = h
-not_over input true h goes done =
-    absurd (let wrong : status.TooLong ≡ status.Done = sym (ap status_of_end (outcome_by goal.Run [] input true false h goes)) ∙ done in cc)
+not_over : (opening : Lines) (input : Text) (over : Bool) → is_over input ≡ over → ends_run goal.Run (opening ++ heard input) ≡ false →
+    status_of_end (outcome goal.Run opening input) ≡ status.Done → is_over input ≡ false
+not_over opening input false h goes done = h
+not_over opening input true h goes done =
+    absurd (let wrong : status.TooLong ≡ status.Done = sym (ap status_of_end (outcome_by goal.Run opening input true false h goes)) ∙ done in cc)
 
--- the lines of a report are all lines of the input, behind the opening
+-- the lines of a report are all lines of the input, behind the opening, where the input is heard
+all_of_run : (opening : Lines) (hears : Bool) (input : Text) →
+    status_of_run (a_run goal.Run opening hears true) input ≡ status.Done → AreOfCall (lines_of (a_run goal.Run opening hears true) input) →
+    IfSome {T = Goal × Lines} (cond hears (Some (goal.Run, opening)) None) (λ h. lines_of (a_run goal.Run opening hears true) input ≡ h.1 ++ lines input)
+all_of_run opening true input done call =
+    ap (λ ls. opening ++ ls) (heard_within input (not_over opening input (is_over input) refl (goes_to_report (opening ++ heard input) call.done) done))
+all_of_run opening false input done call = tt
+
+all_opened : (opening : Result Lines Status) (input : Text) → status_opened opening input ≡ status.Done →
+    IfSome (report_by opening input) AreOfCall →
+    IfSome (report_by opening input)
+    (λ all. IfSome (heard_by opening) (λ h. all ≡ h.1 ++ lines input))
+all_opened (Ok opening) input done call = all_of_run opening (not (ends_run goal.Run opening)) input done call
+all_opened (Err s) input done call = tt
+
 all_lines : (asked : Option Form) (given : Given) → due_status asked given ≡ status.Done → IfSome (reported asked given) AreOfCall →
     IfSome (reported asked given) (λ all. IfSome (hears asked given) (λ h. all ≡ h.1 ++ lines given.input))
 unfolding due_status
 all_lines None given done call = tt
-all_lines (Some (form.Input goal.Run)) given done call =
-    heard_within given.input (not_over given.input (is_over given.input) refl (goes_to_report (heard given.input) call.done) done)
+all_lines (Some (form.Input goal.Run)) given done call = all_of_run [] true given.input done call
 all_lines (Some (form.Input goal.Pairs)) given done call = tt
 all_lines (Some (form.Input goal.Feasible)) given done call = tt
+all_lines (Some form.Opened) given done call = all_opened (opening_of given.files) given.input done call
 
 -- Where the words are of no form.
 
@@ -181,18 +248,20 @@ appends_nothing : (shown : Option Text) → AppendsWhereTold shown shown []
 appends_nothing None = tt
 appends_nothing (Some now) = sym (append-nil now)
 
-no_form_ends : (given : Option Given) (reads writes : Counts) → EndsAsDue None given status.Usage reads writes
+no_form_ends : (given : Option Given) (input : Option Text) (faults : Faults) → EndsAsDue None given input status.Usage faults
 unfolding due_status
-no_form_ends given reads writes = record {
+no_form_ends given input faults = record {
   usage = (λ is. refl, λ is. refl);
   due = for_told given (λ given. refl);
-  complete = for_told given (λ given unread unwritten. inl refl);
+  complete = for_told given (λ given unread unloaded unwritten. inl refl);
   read_fault = λ is. absurd (let wrong : ⊥ = cc in wrong);
   write_fault = λ is. absurd (let wrong : ⊥ = cc in wrong);
+  too_long = λ is. absurd (let wrong : ⊥ = cc in wrong);
+  bad_file = λ why is. absurd (let wrong : ⊥ = cc in wrong);
 }
 
-pub usage_ends : (asked : Option Form) (given : Option Given) (reads writes : Counts) → asked ≡ None → EndsAsDue asked given status.Usage reads writes
-usage_ends asked given reads writes none = subst (λ asked. EndsAsDue asked given status.Usage reads writes) (sym none) (no_form_ends given reads writes)
+pub usage_ends : (asked : Option Form) (given : Option Given) (input : Option Text) (faults : Faults) → asked ≡ None → EndsAsDue asked given input status.Usage faults
+usage_ends asked given input faults none = subst (λ asked. EndsAsDue asked given input status.Usage faults) (sym none) (no_form_ends given input faults)
 
 pub usage_writes : {O : Type 0} (shown : O → Option Text) (asked : Option Form) (given : Option Given) (old : O) → asked ≡ None → WritesWhatIsDue shown asked given status.Usage old old
 usage_writes {O} shown asked given old none = subst (λ asked. WritesWhatIsDue shown asked given status.Usage old old) (sym none) (record {
@@ -217,42 +286,55 @@ usage_promise asked given before after none = subst (λ asked. KeepsThePromise a
   want_of_an_assignment_is_told = for_told given (λ given. tt);
 })
 
-pub usage_reads : {I : Type 0} (left : I → Option Text) (asked : Option Form) (given : Option Given) (old : I) → asked ≡ None → ReadsFarEnough left asked given status.Usage old old
-usage_reads {I} left asked given old none = subst (λ asked. ReadsFarEnough left asked given status.Usage old old) (sym none) (record {
+pub usage_reads : {I : Type 0} (left : I → Option Text) (asked : Option Form) (given : Option Given) (loads : Counts) (old : I) → asked ≡ None → ReadsFarEnough left asked given loads status.Usage old old
+usage_reads {I} left asked given loads old none = subst (λ asked. ReadsFarEnough left asked given loads status.Usage old old) (sym none) (record {
   read_far_enough = λ read kept. for_told given (λ given. tt);
-  read_fault_undecided = λ is. for_told given (λ given. tt);
+  read_fault_undecided = λ is. absurd (let wrong : ⊥ = cc in wrong);
   read_no_further = for_told given (λ given. tt);
   read_to_end = λ is. for_told given (λ given. tt);
   usage_reads_nothing = λ is. refl;
+  unheard_is_unread = for_told given (λ given unheard. refl);
+  bad_file_reads_nothing = λ why is. refl;
 })
+
+pub usage_files : {F : Type 0} (shown : F → Option Contents) (names : List Text) (old : F) → KeepsFiles shown names old old
+usage_files {F} shown names old = record { files_unchanged = refl; shelf_unchanged = λ none. refl }
 
 -- Where there is no answer, or where it is not given whole.
 
-pub read_fault_ends : (asked : Option Form) (f : Form) (given : Option Given) (reads writes : Counts) → asked ≡ Some f → Rose reads.0 reads.1 → EndsAsDue asked given status.ReadFault reads writes
-read_fault_ends asked f given reads writes some rose = record {
+pub read_fault_ends : (asked : Option Form) (f : Form) (given : Option Given) (input : Option Text) (faults : Faults) → asked ≡ Some f →
+    ReadRose asked faults.reads ⊎ LoadRose asked faults.loads → EndsAsDue asked given input status.ReadFault faults
+read_fault_ends asked f given input faults some rose = record {
   usage = (λ is. absurd (let wrong : ⊥ = cc in wrong), λ none. absurd (asked_something asked f some none));
   due = for_told given (λ given. tt);
-  complete = for_told given (λ given unread unwritten. absurd (unread rose));
+  complete = for_told given (λ given unread unloaded unwritten. absurd (elim rose [ inl read ↦ unread read | inr loaded ↦ unloaded loaded ]));
   read_fault = λ is. rose;
   write_fault = λ is. absurd (let wrong : ⊥ = cc in wrong);
+  too_long = λ is. absurd (let wrong : ⊥ = cc in wrong);
+  bad_file = λ why is. absurd (let wrong : ⊥ = cc in wrong);
 }
 
-pub memory_ends : (asked : Option Form) (f : Form) (given : Option Given) (reads writes : Counts) → asked ≡ Some f → EndsAsDue asked given status.Memory reads writes
-memory_ends asked f given reads writes some = record {
+pub memory_ends : (asked : Option Form) (f : Form) (given : Option Given) (input : Option Text) (faults : Faults) → asked ≡ Some f → EndsAsDue asked given input status.Memory faults
+memory_ends asked f given input faults some = record {
   usage = (λ is. absurd (let wrong : ⊥ = cc in wrong), λ none. absurd (asked_something asked f some none));
   due = for_told given (λ given. tt);
-  complete = for_told given (λ given unread unwritten. inr refl);
+  complete = for_told given (λ given unread unloaded unwritten. inr refl);
   read_fault = λ is. absurd (let wrong : ⊥ = cc in wrong);
   write_fault = λ is. absurd (let wrong : ⊥ = cc in wrong);
+  too_long = λ is. absurd (let wrong : ⊥ = cc in wrong);
+  bad_file = λ why is. absurd (let wrong : ⊥ = cc in wrong);
 }
 
-pub write_fault_ends : (asked : Option Form) (f : Form) (given : Option Given) (reads writes : Counts) → asked ≡ Some f → Rose writes.0 writes.1 → EndsAsDue asked given status.WriteFault reads writes
-write_fault_ends asked f given reads writes some rose = record {
+pub write_fault_ends : (asked : Option Form) (f : Form) (given : Option Given) (input : Option Text) (faults : Faults) → asked ≡ Some f → Rose faults.writes.0 faults.writes.1 →
+    EndsAsDue asked given input status.WriteFault faults
+write_fault_ends asked f given input faults some rose = record {
   usage = (λ is. absurd (let wrong : ⊥ = cc in wrong), λ none. absurd (asked_something asked f some none));
   due = for_told given (λ given. tt);
-  complete = for_told given (λ given unread unwritten. absurd (unwritten rose));
+  complete = for_told given (λ given unread unloaded unwritten. absurd (unwritten rose));
   read_fault = λ is. absurd (let wrong : ⊥ = cc in wrong);
   write_fault = λ is. rose;
+  too_long = λ is. absurd (let wrong : ⊥ = cc in wrong);
+  bad_file = λ why is. absurd (let wrong : ⊥ = cc in wrong);
 }
 
 pub read_fault_writes : {O : Type 0} (shown : O → Option Text) (asked : Option Form) (given : Option Given) (old : O) → WritesWhatIsDue shown asked given status.ReadFault old old
@@ -300,25 +382,30 @@ fault_promise asked given s before after not_done not_short faulty = record {
 }
 
 -- an answer that is not given whole was read as far
-pub reads_unwritten : {I : Type 0} (left : I → Option Text) (asked : Option Form) (given : Option Given) (s : Status) (old new : I) → IsAnswered s → ReadsFarEnough left asked given s old new →
-    ReadsFarEnough left asked given status.WriteFault old new
-reads_unwritten {I} left asked given s old new answered reads = record {
+pub reads_unwritten : {I : Type 0} (left : I → Option Text) (asked : Option Form) (given : Option Given) (loads : Counts) (s : Status) (old new : I) → IsAnswered s →
+    ReadsFarEnough left asked given loads s old new → ReadsFarEnough left asked given loads status.WriteFault old new
+reads_unwritten {I} left asked given loads s old new answered reads = record {
   read_far_enough = λ read kept. reads.read_far_enough (not_read_fault s answered) (not_memory s answered);
   read_fault_undecided = λ is. absurd (let wrong : ⊥ = cc in wrong);
   read_no_further = reads.read_no_further;
   read_to_end = λ is. absurd (let wrong : ⊥ = cc in wrong);
   usage_reads_nothing = λ is. absurd (let wrong : ⊥ = cc in wrong);
+  unheard_is_unread = reads.unheard_is_unread;
+  bad_file_reads_nothing = λ why is. absurd (let wrong : ⊥ = cc in wrong);
 }
 
 -- Where an answer is given whole.
 
-pub whole_ends : (asked : Option Form) (f : Form) (given : Option Given) (s : Status) (text : Text) (reads writes : Counts) → asked ≡ Some f → Answers asked given s text → EndsAsDue asked given s reads writes
-whole_ends asked f given s text reads writes some answers = record {
+pub whole_ends : (asked : Option Form) (f : Form) (given : Option Given) (input : Option Text) (s : Status) (text : Text) (faults : Faults) → asked ≡ Some f → Answers asked given s text →
+    IsCaused asked given input s faults.reads faults.loads → EndsAsDue asked given input s faults
+whole_ends asked f given input s text faults some answers caused = record {
   usage = (λ is. absurd (not_usage s answers.answered is), λ none. absurd (asked_something asked f some none));
   due = IfSome_then given answers.as_due (λ given answer. is_due (due_status asked given) s answer.ends);
-  complete = IfSome_then given answers.as_due (λ given answer unread unwritten. inl answer.ends);
+  complete = IfSome_then given answers.as_due (λ given answer unread unloaded unwritten. inl answer.ends);
   read_fault = λ is. absurd (not_read_fault s answers.answered is);
   write_fault = λ is. absurd (not_write_fault s answers.answered is);
+  too_long = caused.too_long;
+  bad_file = caused.bad_file;
 }
 
 pub whole_writes : {O : Type 0} (shown : O → Option Text) (asked : Option Form) (given : Option Given) (s : Status) (text : Text) (old new : O) → Answers asked given s text →
@@ -355,16 +442,26 @@ whole_promise asked given s text before after answers appended = record {
     printed : (given : Given) → IsAnswerTo asked given s text → s ≡ status.Done → IfSome (reported asked given) (λ all. text ≡ report_of all)
     printed given answer done = report_is_due asked given text (sym answer.ends ∙ done) answer.writes (answer.of_call done)
 
--- what the words ask for has a goal
-pub input_goal : (f : Form) → f ≡ form.Input (values_d the_form 0 (goal.Run, tt {0}) f).0
-input_goal (form.Input g) = refl
+-- What holds of a form holds of what was asked where that is the form.
 
--- what holds of a form holds of what was asked where that is the form
-pub asked_answers : (asked : Option Form) (f : Form) (input : Option Text) (files : Option Contents) (s : Status) (text : Text) → asked ≡ Some f → Answers (Some f) (told (Some f) input files) s text →
-    Answers asked (told asked input files) s text
-asked_answers asked f input files s text some answers = subst (λ a. Answers a (told a input files) s text) (sym some) answers
+pub asked_answers : (asked : Option Form) (f : Form) (names : List Text) (input : Option Text) (files : Option Contents) (s : Status) (text : Text) → asked ≡ Some f →
+    Answers (Some f) (told (Some f) names input files) s text → Answers asked (told asked names input files) s text
+asked_answers asked f names input files s text some answers = subst (λ a. Answers a (told a names input files) s text) (sym some) answers
 
-pub asked_reads : {I : Type 0} (left : I → Option Text) (asked : Option Form) (f : Form) (input : Option Text) (files : Option Contents) (s t : Status) (old new : I) → asked ≡ Some f → s ≡ t →
-    ReadsFarEnough left (Some f) (told (Some f) input files) s old new → ReadsFarEnough left asked (told asked input files) t old new
-asked_reads {I} left asked f input files s t old new some is reads =
-    subst (λ a. ReadsFarEnough left a (told a input files) t old new) (sym some) (subst (λ s. ReadsFarEnough left (Some f) (told (Some f) input files) s old new) is reads)
+pub asked_caused : (asked : Option Form) (f : Form) (names : List Text) (input : Option Text) (files : Option Contents) (s t : Status) (reads loads : Counts) → asked ≡ Some f → s ≡ t →
+    IsCaused (Some f) (told (Some f) names input files) input s reads loads → IsCaused asked (told asked names input files) input t reads loads
+asked_caused asked f names input files s t reads loads some is caused =
+    subst (λ a. IsCaused a (told a names input files) input t reads loads) (sym some) (subst (λ s. IsCaused (Some f) (told (Some f) names input files) input s reads loads) is caused)
+
+pub asked_reads : {I : Type 0} (left : I → Option Text) (asked : Option Form) (f : Form) (names : List Text) (input : Option Text) (files : Option Contents) (loads : Counts) (s t : Status) (old new : I) → asked ≡ Some f → s ≡ t →
+    ReadsFarEnough left (Some f) (told (Some f) names input files) loads s old new → ReadsFarEnough left asked (told asked names input files) loads t old new
+asked_reads {I} left asked f names input files loads s t old new some is reads =
+    subst (λ a. ReadsFarEnough left a (told a names input files) loads t old new) (sym some)
+    (subst (λ s. ReadsFarEnough left (Some f) (told (Some f) names input files) loads s old new) is reads)
+
+pub asked_files : {F : Type 0} (shown : F → Option Contents) (asked : Option Form) (f : Form) (names : List Text) (old new : F) → asked ≡ Some f → KeepsFiles shown (loads (Some f) names) old new →
+    KeepsFiles shown (loads asked names) old new
+asked_files {F} shown asked f names old new some kept = subst (λ a. KeepsFiles shown (loads a names) old new) (sym some) kept
+
+pub asked_ready : (P : Text → Type 0) (asked : Option Form) (f : Form) (names : List Text) → asked ≡ Some f → All P (loads asked names) → All P (loads (Some f) names)
+asked_ready P asked f names some ready = subst (λ a. All P (loads a names)) some ready

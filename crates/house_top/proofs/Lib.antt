@@ -1,12 +1,7 @@
 pub mod AnswerLemmas
+pub mod AskLemmas
 pub mod CallLemmas
-pub mod CutLemmas
-pub mod DecidedLemmas
-pub mod EndLemmas
-pub mod FrontLemmas
-pub mod HearLemmas
-pub mod InputLemmas
-pub mod LineLemmas
+pub mod FormLemmas
+pub mod LoadLemmas
 pub mod PairLemmas
-pub mod TellLemmas
 pub mod ReadLemmas

@@ -1,5 +1,7 @@
 -- What is due of a call of the program: its status, its text, and the lines that it runs.
-use Rattle.std.specs.Prelude.{◌≡◌, Bool, true, false, Option, Some, None, [], ◌∷◌, ◌++◌, codes, option_and_then, if◌then◌else◌}
+use Rattle.std.specs.Prelude.{◌≡◌, Bool, true, false, not, Option, Some, None, Result, Ok, Err, List, [], ◌∷◌, ◌++◌, codes, option_and_then, if◌then◌else◌}
+use Rattle.std.specs.Result.{result_ok}
+use Rattle.call_file.specs.Keys.{key_word}
 use Rattle.std.specs.Option.{option_map}
 use Rattle.house_base.specs.Text.{Text}
 use Rattle.house_model.specs.declared.goal.Goal.{Goal}
@@ -9,13 +11,17 @@ use Rattle.house_model.specs.EndTexts.{IsTextOfEnd}
 use Rattle.house_model.specs.Heard.{heard}
 use Rattle.house_model.specs.Outcome.{outcome}
 use Rattle.house_model.specs.Report.{line_of}
-use Rattle.house_model.specs.Runs.{taken}
+use Rattle.house_model.specs.Runs.{end_of, ends_run, taken}
 use Rattle.house_model.specs.Text.{Lines}
+use Rattle.house_top.specs.declared.bad.Bad.{Bad}
+use Rattle.house_top.specs.declared.bad.Bad.TheVariants as bad
 use Rattle.house_top.specs.declared.form.Form.{Form}
 use Rattle.house_top.specs.declared.form.Form.TheVariants as form
 use Rattle.house_top.specs.declared.status.Status.{Status}
 use Rattle.house_top.specs.declared.status.Status.TheVariants as status
 use Rattle.house_top.specs.Given.{Given}
+use Rattle.house_top.specs.Opening.{opening_of}
+use Rattle.report_text.specs.BadFiles.{bad_key_words, bad_record_words, bad_toml_words}
 
 -- the status of a run that ends so; a run without an end is that of an input that is too long
 abbrev pub status_of_end : Option Ended → Status
@@ -44,35 +50,80 @@ is_for_report goal.Run = true
 is_for_report goal.Pairs = false
 is_for_report goal.Feasible = false
 
+-- the run for a goal of an input behind opening lines
+abbrev pub run_behind : Goal → Lines → Run
+run_behind g opening = record { goal = g; opening = opening; hears = true; reports = is_for_report g }
+
+-- the run of opening lines for the report, and of an input behind them where none of them ends it
+abbrev pub opened_run : Lines → Run
+opened_run opening =
+    record { goal = goal.Run; opening = opening; hears = not (ends_run goal.Run opening); reports = true }
+
 -- the run that is asked for; nothing where none is
 abbrev pub run_asked : Option Form → Given → Option Run
 run_asked None given = None
-run_asked (Some (form.Input g)) given = Some (record { goal = g; opening = []; hears = true; reports = is_for_report g })
+run_asked (Some (form.Input g)) given = Some (run_behind g [])
+run_asked (Some form.Opened) given = option_map opened_run (result_ok (opening_of given.files))
 
--- the lines of a run, with what it hears of the input
-abbrev pub lines_of : Run → Given → Lines
-lines_of run given = if run.hears then run.opening ++ heard given.input else run.opening
+-- the lines of a run, with what it hears of an input
+abbrev pub lines_of : Run → Text → Lines
+lines_of run input = if run.hears then run.opening ++ heard input else run.opening
+
+-- how a run ends with an input; nothing where the input is too long
+abbrev pub end_of_run : Run → Text → Option Ended
+end_of_run run input =
+    if run.hears then outcome run.goal run.opening input else Some (end_of run.goal run.opening)
 
 -- the lines that are run, and for which goal
 abbrev pub run_of : Option Form → Given → Option (Goal × Lines)
-run_of asked given = option_map (λ run. (run.goal, lines_of run given)) (run_asked asked given)
+run_of asked given = option_map (λ run. (run.goal, lines_of run given.input)) (run_asked asked given)
 
 -- the lines whose report is written
 abbrev pub reported : Option Form → Given → Option Lines
 reported asked given =
-    option_and_then (λ run. if run.reports then Some (lines_of run given) else None) (run_asked asked given)
+    option_and_then (λ run. if run.reports then Some (lines_of run given.input) else None) (run_asked asked given)
 
 -- the goal for which an input is heard, and the lines that were taken before it
 abbrev pub hears : Option Form → Given → Option (Goal × Lines)
 hears asked given =
     option_and_then (λ run. if run.hears then Some (run.goal, run.opening) else None) (run_asked asked given)
 
+-- the status of a run, and its text
+abbrev pub status_of_run : Run → Text → Status
+status_of_run run input = status_of_end (end_of_run run input)
+
+abbrev pub IsTextOfRun : Run → Text → Text → Type 0
+IsTextOfRun run input text = IsRunText (end_of_run run input) run.goal (taken run.goal (lines_of run input)) text
+
+-- the words of the line that says why a file is refused
+abbrev pub bad_words : Bad → List Text
+bad_words bad.Toml = bad_toml_words
+bad_words (bad.Key key) = bad_key_words (key_word key)
+bad_words (bad.Entry number) = bad_record_words number
+
+-- the text with which a call ends that has no run
+abbrev pub text_without_run : Status → Text
+text_without_run status.TooLong = line_of (codes "too-long" ∷ [])
+text_without_run (status.BadFile why) = line_of (bad_words why)
+text_without_run s = []
+
+-- the status of a call by what its files open a run with, and its text
+abbrev pub status_opened : Result Lines Status → Text → Status
+status_opened (Ok opening) input = status_of_run (opened_run opening) input
+status_opened (Err s) input = s
+
+abbrev pub IsTextOpened : Result Lines Status → Text → Text → Type 0
+IsTextOpened (Ok opening) input text = IsTextOfRun (opened_run opening) input text
+IsTextOpened (Err s) input text = text ≡ text_without_run s
+
 -- the status with which a call is to end
 unfoldable pub due_status : Option Form → Given → Status
 due_status None given = status.Usage
-due_status (Some (form.Input g)) given = status_of_end (outcome g [] given.input)
+due_status (Some (form.Input g)) given = status_of_run (run_behind g []) given.input
+due_status (Some form.Opened) given = status_opened (opening_of given.files) given.input
 
 -- the text that is to be given
 abbrev pub IsDueText : Option Form → Given → Text → Type 0
 IsDueText None given text = text ≡ []
-IsDueText (Some (form.Input g)) given text = IsRunText (outcome g [] given.input) g (taken g (heard given.input)) text
+IsDueText (Some (form.Input g)) given text = IsTextOfRun (run_behind g []) given.input text
+IsDueText (Some form.Opened) given text = IsTextOpened (opening_of given.files) given.input text

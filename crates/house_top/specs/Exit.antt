@@ -12,3 +12,4 @@ exit_of status.ReadFault = 4
 exit_of status.WriteFault = 5
 exit_of status.Memory = 6
 exit_of status.TooLong = 8
+exit_of (status.BadFile bad) = 9

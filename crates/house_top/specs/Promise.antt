@@ -1,6 +1,7 @@
 -- What is promised of a call of the program, by what it asks for and what it is given, where that is told.
-use Rattle.std.specs.Prelude.{◌≡◌, ◌≢◌, ◌↔◌, ◌⊎◌, ◌++◌, ℕ, Option, None, IfSome, IsTrue, take}
+use Rattle.std.specs.Prelude.{◌≡◌, ◌≢◌, ◌↔◌, ◌⊎◌, ◌++◌, ℕ, true, List, [], Option, None, Some, IfSome, IsSomeAnd, IsTrue, take}
 use Rattle.house_io.specs.Faults.{Rose}
+use Rattle.house_io.specs.Files.{Contents}
 use Rattle.house_io.specs.Sink.{AppendsWhereTold}
 use Rattle.house_base.specs.Text.{Text}
 use Rattle.peer_selection.specs.FirstAssignment.{has_assignment}
@@ -8,16 +9,19 @@ use Rattle.house_model.specs.declared.goal.Goal.{Goal}
 use Rattle.house_model.specs.declared.goal.Goal.TheVariants as goal
 use Rattle.house_model.specs.Headline.{ChancesAreCounted, ComesShort, HasValidAssignment, OrderOfArrivalChangesNothing}
 use Rattle.house_model.specs.Headline.{OwnReviewsChangeNoChance, QuotasAreMeans, SealIsKept, SeatsAreQuotasRounded}
+use Rattle.house_model.specs.Heard.{is_over}
 use Rattle.house_model.specs.Runs.{looked_at, taken}
 use Rattle.house_model.specs.Said.{setting}
 use Rattle.house_model.specs.Text.{Lines, lines}
+use Rattle.house_top.specs.declared.bad.Bad.{Bad}
 use Rattle.house_top.specs.declared.form.Form.{Form}
+use Rattle.house_top.specs.declared.form.Form.TheVariants as form
 use Rattle.house_top.specs.declared.status.Status.{Status}
 use Rattle.house_top.specs.declared.status.Status.TheVariants as status
 use Rattle.house_top.specs.Answer.{IsShortOrFault, IsWhole}
 use Rattle.house_top.specs.Due.{IsDueText, due_status, hears, reported, run_of}
 use Rattle.house_top.specs.Given.{Given}
-use Rattle.house_top.specs.Input.{DecidedWhereTold, EndsWhereTold, NoFurtherWhereTold, UndecidedWhereTold}
+use Rattle.input_run.specs.Input.{DecidedWhereTold, EndsWhereTold, NoFurtherWhereTold, UndecidedWhereTold}
 
 -- The status.
 
@@ -32,14 +36,48 @@ IsDue d s = s ≡ d
 abbrev pub Counts : Type 0
 Counts = ℕ × ℕ
 
+-- the counts of faults of the input, of the files and of the output
+pub record Faults : Type 0 where
+  pub reads : Counts
+  pub loads : Counts
+  pub writes : Counts
+
+abbrev pub counted : Counts → Counts → Counts → Faults
+counted reads loads writes = record { reads = reads; loads = loads; writes = writes }
+
+-- the words read the input, and its count rose
+abbrev pub ReadRose : Option Form → Counts → Type 0
+ReadRose None reads = ⊥
+ReadRose (Some (form.Input g)) reads = Rose reads.0 reads.1
+ReadRose (Some form.Opened) reads = Rose reads.0 reads.1
+
+-- the words load files, and their count rose
+abbrev pub LoadRose : Option Form → Counts → Type 0
+LoadRose None loads = ⊥
+LoadRose (Some (form.Input g)) loads = ⊥
+LoadRose (Some form.Opened) loads = Rose loads.0 loads.1
+
+-- why a call fails to read, and where a length that is not told is too long: a count of what its words look at rose
+pub record IsCaused (asked : Option Form) (given : Option Given) (input : Option Text) (s : Status)
+    (reads loads : Counts) : Type 0 where
+  pub read_fault : s ≡ status.ReadFault → ReadRose asked reads ⊎ LoadRose asked loads
+  pub too_long : s ≡ status.TooLong → ¬ LoadRose asked loads → IfSome input (λ input.
+      IsSomeAnd given (λ given. due_status asked given ≡ status.TooLong) ⊎ (is_over input ≡ true))
+  pub bad_file : (why : Bad) → s ≡ status.BadFile why → asked ≡ Some form.Opened
+
 -- a call ends as is due, or for a fault that was counted, or for want of memory
-pub record EndsAsDue (asked : Option Form) (given : Option Given) (s : Status) (reads writes : Counts) : Type 0 where
+pub record EndsAsDue (asked : Option Form) (given : Option Given) (input : Option Text) (s : Status)
+    (faults : Faults) : Type 0 where
   pub usage : (s ≡ status.Usage) ↔ (asked ≡ None)
   pub due : IfSome given (λ given. IsDue (due_status asked given) s)
-  pub complete : IfSome given (λ given. ¬ Rose reads.0 reads.1 → ¬ Rose writes.0 writes.1 →
-      (s ≡ due_status asked given) ⊎ (s ≡ status.Memory))
-  pub read_fault : s ≡ status.ReadFault → Rose reads.0 reads.1
-  pub write_fault : s ≡ status.WriteFault → Rose writes.0 writes.1
+  pub complete : IfSome given (λ given. ¬ ReadRose asked faults.reads → ¬ LoadRose asked faults.loads →
+      ¬ Rose faults.writes.0 faults.writes.1 → (s ≡ due_status asked given) ⊎ (s ≡ status.Memory))
+  pub read_fault : s ≡ status.ReadFault → ReadRose asked faults.reads ⊎ LoadRose asked faults.loads
+  pub write_fault : s ≡ status.WriteFault → Rose faults.writes.0 faults.writes.1
+  -- of files that do not tell their length: one that is too long is counted
+  pub too_long : s ≡ status.TooLong → ¬ LoadRose asked faults.loads → IfSome input (λ input.
+      IsSomeAnd given (λ given. due_status asked given ≡ status.TooLong) ⊎ (is_over input ≡ true))
+  pub bad_file : (why : Bad) → s ≡ status.BadFile why → asked ≡ Some form.Opened
 
 -- What is written.
 
@@ -94,17 +132,20 @@ pub record KeepsThePromise (asked : Option Form) (given : Option Given) (s : Sta
 
 -- an input is read to its end, or as far as it decides how the run ends, and no further
 pub record ReadsFarEnough {I : Type 0} (left : I → Option Text) (asked : Option Form) (given : Option Given)
-    (s : Status) (old new : I) : Type 0 where
+    (loads : Counts) (s : Status) (old new : I) : Type 0 where
   pub read_far_enough : s ≢ status.ReadFault → s ≢ status.Memory → IfSome given (λ given.
       IfSome (hears asked given) (λ h. DecidedWhereTold h.0 h.1 (left old) (left new)))
-  pub read_fault_undecided : s ≡ status.ReadFault → IfSome given (λ given.
-      IfSome (hears asked given) (λ h. UndecidedWhereTold h.0 h.1 (left old) (left new)))
+  pub read_fault_undecided : s ≡ status.ReadFault → ¬ LoadRose asked loads → IfSome given (λ given.
+      IsSomeAnd (hears asked given) (λ h. UndecidedWhereTold h.0 h.1 (left old) (left new)))
   pub read_no_further : IfSome given (λ given.
       IfSome (hears asked given) (λ h. NoFurtherWhereTold h.0 h.1 (left old) (left new)))
   pub read_to_end : s ≡ status.Done → IfSome given (λ given.
       IfSome (reported asked given) (λ all. EndsWhereTold (left old) (left new)))
   pub usage_reads_nothing : s ≡ status.Usage → new ≡ old
+  pub unheard_is_unread : IfSome given (λ given. hears asked given ≡ None → new ≡ old)
+  pub bad_file_reads_nothing : (why : Bad) → s ≡ status.BadFile why → new ≡ old
 
--- all files are as they were
-pub record KeepsFiles {F : Type 0} (old new : F) : Type 0 where
-  pub shelf_unchanged : new ≡ old
+-- all files hold what they held, and where none is loaded nothing at all has become of them
+pub record KeepsFiles {F : Type 0} (shown : F → Option Contents) (loaded : List Text) (old new : F) : Type 0 where
+  pub files_unchanged : shown new ≡ shown old
+  pub shelf_unchanged : loaded ≡ [] → new ≡ old

@@ -1,8 +1,9 @@
 -- What the words of a call of the program ask for.
-use Rattle.std.specs.Prelude.{Bool, Option, Some, None, List, [], ◌∷◌, map, String, string_bytes, codes, if◌then◌else◌}
+use Rattle.std.specs.Prelude.{Bool, false, ◌&&◌, not, Option, Some, None, List, [], ◌∷◌, drop, map, String, string_bytes, codes, if◌then◌else◌}
 use Rattle.std.specs.Cmp.Lexicographic.{pointwise}
 use Rattle.std.specs.Str.{bytes_eq}
 use Rattle.house_base.specs.Text.{Text}
+use Rattle.house_model.specs.Text.{is_empty}
 use Rattle.house_model.specs.declared.goal.Goal.TheVariants as goal
 use Rattle.house_top.specs.declared.form.Form.{Form}
 use Rattle.house_top.specs.declared.form.Form.TheVariants as form
@@ -15,10 +16,29 @@ texts words = map string_bytes words
 abbrev pub are_words : List Text → List Text → Bool
 are_words words these = pointwise bytes_eq words these
 
+-- the words are this one, and behind it the names of two files, none of them empty
+abbrev pub name_two_files : Text → List Text → Bool
+name_two_files word (first ∷ one ∷ other ∷ []) = bytes_eq first word && not (is_empty one) && not (is_empty other)
+name_two_files word words = false
+
+-- the words behind the first
+abbrev pub names_in : List Text → List Text
+names_in words = drop 1 words
+
+-- the names of the files that are loaded
+abbrev pub loads : Option Form → List Text → List Text
+loads (Some form.Opened) names = names
+loads asked names = []
+
 -- what the words ask for; nothing where they are of no form
 unfoldable pub form_of : List Text → Option Form
 form_of words =
     if are_words words (codes "run" ∷ []) then Some (form.Input goal.Run)
     else if are_words words (codes "feasible" ∷ []) then Some (form.Input goal.Feasible)
     else if are_words words (codes "pairs" ∷ []) then Some (form.Input goal.Pairs)
+    else if name_two_files (codes "run") words then Some form.Opened
     else None
+
+-- the names of the files that a call with these words loads
+abbrev pub loaded_by : List Text → List Text
+loaded_by words = loads (form_of words) (names_in words)

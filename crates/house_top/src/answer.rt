@@ -10,15 +10,20 @@ ghost use Rattle.peer_selection.specs.Profile.{Pairs};
 ghost use Rattle.house_model.specs.Text.{Lines};
 ghost use Rattle.house_model.specs.Texts.{pairs_text, short_text};
 ghost use Rattle.house_top.specs.Answer.{IsEndAnswer, IsHeardAnswer};
-ghost use Rattle.house_top.specs.Hearing.{HasLines, HasSomeLines};
+ghost use Rattle.house_top.specs.Due.{bad_words};
+ghost use Rattle.input_run.specs.Hearing.{HasLines, HasSomeLines};
 
-use crate::input::Heard;
+use crate::bad::Bad;
 use crate::status::Status;
 use cut_gap::Cut;
 use house_base::{Memory, Plan, Reason};
 use house_core::{Ending, House};
 use house_model::Goal;
-use report_text::{Outcome, write_pairs, write_refused, write_report, write_short};
+use input_run::Heard;
+use report_text::{
+    Outcome, write_bad_key, write_bad_record, write_bad_toml, write_pairs, write_refused,
+    write_report, write_short,
+};
 use review_desk::Desk;
 use std::alloc::Global;
 
@@ -41,7 +46,7 @@ pub fn answer_heard(alloc: Global, goal: Goal, heard: &Heard) -> Result<Answer, 
 }
 
 /// The answer of a run that is at its end.
-fn answer_of(alloc: Global, goal: Goal, house: &House) -> Result<Answer, Memory>
+pub fn answer_of(alloc: Global, goal: Goal, house: &House) -> Result<Answer, Memory>
     requires { (lines : Lines) × HasLines goal lines house.now }
     ensures { (lines : Lines) → HasLines goal lines house.now →
         IfOk result (λ answer. IsEndAnswer goal lines answer.status answer.text.items) }
@@ -126,14 +131,31 @@ fn short(alloc: Global, plan: &Plan, cut: &Cut) -> Result<Answer, Memory>
     })
 }
 
-/// The answer to an input that is over its limits.
+/// The answer to an input that is over its limits, or to a file that is longer than its own.
 #[tactic(auto, unfolding(house_model::specs::Report::line_of))]
-fn too_long(alloc: Global) -> Result<Answer, Memory>
+pub fn too_long(alloc: Global) -> Result<Answer, Memory>
     ensures status { IfOk result (λ answer. answer.status ≡ Status.TooLong) }
     ensures text { IfOk result (λ answer. answer.text.items ≡ line_of (codes "too-long" ∷ [])) }
 {
     Ok(Answer {
         status: Status::TooLong,
         text: b"too-long\n".to_vec(alloc)?,
+    })
+}
+
+/// The answer to a file that is refused.
+pub fn bad_file(alloc: Global, why: Bad) -> Result<Answer, Memory>
+    ensures status { IfOk result (λ answer. answer.status ≡ Status.BadFile why) }
+    ensures text { IfOk result (λ answer. answer.text.items ≡ line_of (bad_words why)) }
+{
+    let mut text = Vec::new(alloc);
+    match why {
+        Bad::Toml => write_bad_toml(alloc, &mut text)?,
+        Bad::Key(key) => write_bad_key(alloc, key.word(), &mut text)?,
+        Bad::Entry(number) => write_bad_record(alloc, number, &mut text)?,
+    }
+    Ok(Answer {
+        status: Status::BadFile(why),
+        text,
     })
 }

@@ -1,19 +1,21 @@
 //! The call of the program.
 
-ghost use Rattle.house_top.specs.Given.{told};
-ghost use Rattle.house_top.specs.Promise.{EndsAsDue, KeepsFiles, KeepsThePromise, ReadsFarEnough, WritesWhatIsDue};
-ghost use Rattle.house_top.specs.Words.{form_of, texts};
+ghost use Rattle.std.specs.Prelude.{All};
+ghost use Rattle.house_top.specs.Given.{given_by};
+ghost use Rattle.house_top.specs.Promise.{EndsAsDue, KeepsFiles, KeepsThePromise, ReadsFarEnough, WritesWhatIsDue, counted};
+ghost use Rattle.house_top.specs.Words.{form_of, loaded_by, texts};
 
 use crate::forms::answer_to;
-use crate::input::InputFault;
 use crate::output::give_all;
 use crate::status::Status;
 use crate::words::form_of;
-use house_io::{Shelf, Sink, Source};
+use house_io::{Files, Shelf, Sink, Source};
+use input_run::InputFault;
 use std::alloc::Global;
 
-/// Runs the program on its words, its input and its files. The input is read in pieces, up to a line that ends the
-/// run, to the end of its limits or to its own end, and all memory is taken before the first byte is written.
+/// Runs the program on its words, its input and its files. The files that the words name are loaded first. The input is
+/// read in pieces, up to a line that ends the run, to the end of its limits or to its own end, and all memory is taken
+/// before the first byte is written.
 pub fn house<I: Source, O: Sink, F: Shelf>(
     alloc: Global,
     words: &Vec<String>,
@@ -21,22 +23,53 @@ pub fn house<I: Source, O: Sink, F: Shelf>(
     output: &mut O,
     shelf: &mut F,
 ) -> Status
-    ensures ends { let asked = form_of (texts words.now.items) in
-        EndsAsDue asked (told asked (I.left input.old) (F.contents shelf.old)) result
-        (I.faults input.old, I.faults input.new) (O.faults output.old, O.faults output.new) }
-    ensures writes { let asked = form_of (texts words.now.items) in
-        WritesWhatIsDue O.given asked (told asked (I.left input.old) (F.contents shelf.old)) result output.old output.new }
-    ensures promise { let asked = form_of (texts words.now.items) in
-        KeepsThePromise asked (told asked (I.left input.old) (F.contents shelf.old)) result
+    requires ready { All (F.ready shelf.old) (loaded_by (texts words.now.items)) }
+    ensures ends { let said = texts words.now.items in
+        EndsAsDue (form_of said) (given_by said (I.left input.old) (F.contents shelf.old)) (I.left input.old) result
+        (counted (I.faults input.old, I.faults input.new) (F.faults shelf.old, F.faults shelf.new)
+        (O.faults output.old, O.faults output.new)) }
+    ensures writes { let said = texts words.now.items in
+        WritesWhatIsDue O.given (form_of said) (given_by said (I.left input.old) (F.contents shelf.old)) result
+        output.old output.new }
+    ensures promise { let said = texts words.now.items in
+        KeepsThePromise (form_of said) (given_by said (I.left input.old) (F.contents shelf.old)) result
         (O.given output.old) (O.given output.new) }
-    ensures reads { let asked = form_of (texts words.now.items) in
-        ReadsFarEnough I.left asked (told asked (I.left input.old) (F.contents shelf.old)) result input.old input.new }
-    ensures files { KeepsFiles shelf.old shelf.new }
+    ensures reads { let said = texts words.now.items in
+        ReadsFarEnough I.left (form_of said) (given_by said (I.left input.old) (F.contents shelf.old))
+        (F.faults shelf.old, F.faults shelf.new) result input.old input.new }
+    ensures files { KeepsFiles F.contents (loaded_by (texts words.now.items)) shelf.old shelf.new }
+{
+    read_only(alloc, words, input, output, shelf)
+}
+
+/// As `house`, with files that need not take any: no words of today store one.
+pub fn read_only<I: Source, O: Sink, F: Files>(
+    alloc: Global,
+    words: &Vec<String>,
+    input: &mut I,
+    output: &mut O,
+    files: &mut F,
+) -> Status
+    requires ready { All (F.ready files.old) (loaded_by (texts words.now.items)) }
+    ensures ends { let said = texts words.now.items in
+        EndsAsDue (form_of said) (given_by said (I.left input.old) (F.contents files.old)) (I.left input.old) result
+        (counted (I.faults input.old, I.faults input.new) (F.faults files.old, F.faults files.new)
+        (O.faults output.old, O.faults output.new)) }
+    ensures writes { let said = texts words.now.items in
+        WritesWhatIsDue O.given (form_of said) (given_by said (I.left input.old) (F.contents files.old)) result
+        output.old output.new }
+    ensures promise { let said = texts words.now.items in
+        KeepsThePromise (form_of said) (given_by said (I.left input.old) (F.contents files.old)) result
+        (O.given output.old) (O.given output.new) }
+    ensures reads { let said = texts words.now.items in
+        ReadsFarEnough I.left (form_of said) (given_by said (I.left input.old) (F.contents files.old))
+        (F.faults files.old, F.faults files.new) result input.old input.new }
+    ensures files { KeepsFiles F.contents (loaded_by (texts words.now.items)) files.old files.new }
 {
     let Some(form) = form_of(words) else {
         return Status::Usage;
     };
-    match answer_to(alloc, form, input, shelf) {
+    match answer_to(alloc, form, words, input, files) {
         Ok(answer) => match give_all(output, &answer.text) {
             Ok(()) => answer.status,
             Err(_) => Status::WriteFault,

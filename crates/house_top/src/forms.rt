@@ -1,35 +1,50 @@
 //! What the words ask for, and the answer to it: a function for each form.
 
-ghost use Rattle.std.specs.Prelude.{◌≡◌, IfOk, IsErrOf, Some};
-ghost use Rattle.house_io.specs.Faults.{Rose};
+ghost use Rattle.std.specs.Prelude.{◌≡◌, All, IfOk, Some};
 ghost use Rattle.house_top.specs.Answer.{Answers, status_of_answer};
 ghost use Rattle.house_top.specs.Given.{told};
-ghost use Rattle.house_top.specs.Promise.{KeepsFiles, ReadsFarEnough};
+ghost use Rattle.house_top.specs.Promise.{IsCaused, KeepsFiles, ReadsFarEnough};
+ghost use Rattle.house_top.specs.Words.{form_of, loads, names_in, texts};
 
-mod run;
+mod input;
+mod opened;
 
 use crate::answer::Answer;
 use crate::form::Form;
-use crate::input::InputFault;
 use house_io::{Files, Source};
+use input_run::InputFault;
 use std::alloc::Global;
 
-/// The answer to what was asked, with all memory taken that it needs.
+/// The answer to what the words ask for, with all memory taken that it needs.
 pub fn answer_to<I: Source, F: Files>(
     alloc: Global,
     form: Form,
+    words: &Vec<String>,
     input: &mut I,
     files: &mut F,
 ) -> Result<Answer, InputFault>
-    ensures answer { IfOk result (λ answer. Answers (Some form) (told (Some form) (I.left input.old) (F.contents files.old))
+    requires form { form_of (texts words.now.items) ≡ Some form }
+    requires ready { All (F.ready files.old) (loads (Some form) (names_in (texts words.now.items))) }
+    ensures answer { let names = names_in (texts words.now.items) in
+        IfOk result (λ answer. Answers (Some form) (told (Some form) names (I.left input.old) (F.contents files.old))
         answer.status answer.text.items) }
-    ensures failed { IsErrOf result InputFault.Failed → Rose (I.faults input.old) (I.faults input.new) }
-    ensures reads { ReadsFarEnough I.left (Some form) (told (Some form) (I.left input.old) (F.contents files.old))
-        (status_of_answer result) input.old input.new }
-    ensures files { KeepsFiles files.old files.new }
+    ensures caused { let names = names_in (texts words.now.items) in
+        IsCaused (Some form) (told (Some form) names (I.left input.old) (F.contents files.old)) (I.left input.old)
+        (status_of_answer result) (I.faults input.old, I.faults input.new) (F.faults files.old, F.faults files.new) }
+    ensures reads { let names = names_in (texts words.now.items) in
+        ReadsFarEnough I.left (Some form) (told (Some form) names (I.left input.old) (F.contents files.old))
+        (F.faults files.old, F.faults files.new) (status_of_answer result) input.old input.new }
+    ensures files { let names = names_in (texts words.now.items) in
+        KeepsFiles F.contents (loads (Some form) names) files.old files.new }
 {
-    let _ = files;
     match form {
-        Form::Input(goal) => run::run_input(alloc, goal, input),
+        Form::Input(goal) => input::run_input(alloc, goal, input),
+        Form::Opened => opened::run_opened(
+            alloc,
+            words[1].as_str(),
+            words[2].as_str(),
+            input,
+            files,
+        ),
     }
 }

@@ -3,15 +3,17 @@
 #![tactic(auto)]
 
 mod answer;
+mod bad;
 mod call;
 mod form;
 mod forms;
-mod hearing;
-mod input;
+mod opening;
 mod output;
+mod run;
 mod status;
 mod words;
 
-pub use call::house;
+pub use bad::Bad;
+pub use call::{house, read_only};
 pub use form::Form;
 pub use status::Status;

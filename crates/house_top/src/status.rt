@@ -3,6 +3,7 @@
 ghost use Rattle.std.specs.Prelude.{◌≡◌};
 ghost use Rattle.house_top.specs.Exit.{exit_of};
 
+use crate::bad::Bad;
 use house_base::Reason;
 
 /// How a call ended.
@@ -16,14 +17,16 @@ pub enum Status {
     Refused(u64, Reason),
     /// No valid assignment exists.
     Short,
-    /// The input could not be read.
+    /// The input, or a file, could not be read.
     ReadFault,
     /// The output could not be written.
     WriteFault,
     /// No memory was left.
     Memory,
-    /// The input is over the limits on its bytes or on its lines.
+    /// The input is over the limits on its bytes or on its lines, or a file is longer than its limit.
     TooLong,
+    /// A file is refused.
+    BadFile(Bad),
 }
 
 impl Status {
@@ -40,6 +43,7 @@ impl Status {
             Status::WriteFault => 5,
             Status::Memory => 6,
             Status::TooLong => 8,
+            Status::BadFile(_) => 9,
         }
     }
 }

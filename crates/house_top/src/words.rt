@@ -1,7 +1,7 @@
 //! The words of a call of the program.
 
 ghost use Rattle.std.specs.Prelude.{◌≡◌, ◌∷◌, []};
-ghost use Rattle.house_top.specs.Words.{are_words, form_of, texts};
+ghost use Rattle.house_top.specs.Words.{are_words, form_of, name_two_files, texts};
 
 use crate::form::Form;
 use house_model::Goal;
@@ -17,6 +17,8 @@ pub fn form_of(words: &Vec<String>) -> Option<Form>
         Some(Form::Input(Goal::Feasible))
     } else if is_word(words, "pairs") {
         Some(Form::Input(Goal::Pairs))
+    } else if name_two_files(words, "run") {
+        Some(Form::Opened)
     } else {
         None
     }
@@ -27,4 +29,11 @@ fn is_word(words: &Vec<String>, word: &str) -> bool
     ensures { result ≡ are_words (texts words.now.items) (word.now ∷ []) }
 {
     words.len() == 1 && words[0].as_str() == word
+}
+
+/// Whether the words are this one and behind it the names of two files, none of them empty.
+fn name_two_files(words: &Vec<String>, word: &str) -> bool
+    ensures { result ≡ name_two_files word.now (texts words.now.items) }
+{
+    words.len() == 3 && words[0].as_str() == word && !words[1].is_empty() && !words[2].is_empty()
 }

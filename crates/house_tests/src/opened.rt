@@ -1,0 +1,124 @@
+//! Calls that a call file and a register open.
+
+use crate::case::{Case, RUN};
+use crate::inputs::FOUR_REPORT;
+use call_file::Key;
+use house_base::Reason;
+use house_top::{Bad, Status};
+use std::test::Fail;
+
+const CALL: &[u8] = b"seats = 2\nclusters = 2\nreviews = 1\n";
+
+const REGISTER: &[u8] = b"name,cluster,conflicts\na,1,\nb,1,\nc,2,\nd,2,\n";
+
+/// The lines of the four-applicants call behind its opening.
+const INPUT: &[u8] = b"pair a c
+pair b d
+pair c a
+pair d b
+assign
+close
+draw 0
+";
+
+/// A call that `c` and `r` open.
+const OPENED: Case<'static> = Case {
+    words: &["run", "c", "r"],
+    input: INPUT,
+    files: &[("c", CALL), ("r", REGISTER)],
+    ..RUN
+};
+
+const CASES: &[Case<'static>] = &[
+    Case {
+        name: "a report behind two files",
+        text: FOUR_REPORT,
+        kept: &[("c", CALL), ("r", REGISTER)],
+        ..OPENED
+    },
+    Case {
+        name: "a call file that is no document",
+        files: &[("c", b"seats ="), ("r", b"")],
+        status: Status::BadFile(Bad::Toml),
+        text: "bad toml\n",
+        ..OPENED
+    },
+    Case {
+        name: "too many seats, and a register without a record",
+        files: &[
+            ("c", b"seats = 1001\nclusters = 2\nreviews = 1\n"),
+            ("r", b""),
+        ],
+        status: Status::BadFile(Bad::Key(Key::Seats)),
+        text: "bad key seats\n",
+        ..OPENED
+    },
+    Case {
+        name: "a register without a record",
+        files: &[("c", CALL), ("r", b"")],
+        status: Status::BadFile(Bad::Entry(1)),
+        text: "bad record 1\n",
+        ..OPENED
+    },
+    Case {
+        name: "a record of two fields",
+        files: &[("c", CALL), ("r", b"name,cluster,conflicts\na,1,\nb,1\n")],
+        status: Status::BadFile(Bad::Entry(3)),
+        text: "bad record 3\n",
+        ..OPENED
+    },
+    Case {
+        name: "a name that comes twice, and an input that cannot be read",
+        files: &[("c", CALL), ("r", b"name,cluster,conflicts\na,1,\na,1,\n")],
+        failing_takes: &[1],
+        status: Status::Refused(3, Reason::Known),
+        text: "refused 3 known\n",
+        ..OPENED
+    },
+    Case {
+        name: "a line of the input that is refused, counted behind the opening",
+        input: b"hello\n",
+        status: Status::Refused(10, Reason::Form),
+        text: "refused 10 form\n",
+        ..OPENED
+    },
+    Case {
+        name: "a call file that is absent",
+        files: &[("r", REGISTER)],
+        status: Status::ReadFault,
+        ..OPENED
+    },
+    Case {
+        name: "a call file off the form, and a register that cannot be loaded",
+        files: &[("c", b"seats ="), ("r", REGISTER)],
+        failing_files: &[2],
+        status: Status::ReadFault,
+        ..OPENED
+    },
+    Case {
+        name: "an input that cannot be read behind two files",
+        failing_takes: &[1],
+        status: Status::ReadFault,
+        ..OPENED
+    },
+    Case {
+        name: "an empty name",
+        words: &["run", "", "r"],
+        status: Status::Usage,
+        ..OPENED
+    },
+    Case {
+        name: "a name too few",
+        words: &["run", "c"],
+        status: Status::Usage,
+        ..OPENED
+    },
+];
+
+#[test]
+fn open_a_call(rt: HostRuntime) -> Result<(), Fail> {
+    for case in CASES {
+        case.check_in_pieces(&rt, &[1, 7, 4096])?;
+    }
+    Ok(())
+}

@@ -1,5 +1,0 @@
-use Rattle.house_top.proofs.HearLemmas.{nothing_heard}
-use Rattle.house_top.proofs.hearing.Hearing.new.Goals as goal
-
-pub returns : goal.returns
-returns c = λ opening opened. nothing_heard c.args.goal opening c.args.house c.new.result opened c.new.ensures

@@ -1,0 +1,14 @@
+//! Why a file is refused.
+
+use call_file::Key;
+
+/// Why a file is refused.
+#[derive(Clone, Copy, Debug, PartialEq, Eq)]
+pub enum Bad {
+    /// The call file is no TOML document.
+    Toml,
+    /// What stands under a key of the call file, or is missing there, is not as it has to be.
+    Key(Key),
+    /// The record of the register with this number, counted from 1, is not of its form.
+    Entry(u64),
+}

@@ -1,0 +1,9 @@
+pub mod CutLemmas
+pub mod DecidedLemmas
+pub mod EndLemmas
+pub mod FrontLemmas
+pub mod HearLemmas
+pub mod InputLemmas
+pub mod LineLemmas
+pub mod OpeningLemmas
+pub mod TellLemmas

@@ -10,10 +10,11 @@ quoted() {
     esac
 }
 
-# The forms of words that the program has: how many there are, and the first.
+# The forms of words that the program has: how many there are, and the first; names of files are not empty.
 is_form() {
     case $#:${1-} in
         1:run | 1:feasible | 1:pairs) ;;
+        3:run) [ -n "$2" ] && [ -n "$3" ] ;;
         *) return 1 ;;
     esac
 }
@@ -23,7 +24,11 @@ are_words() {
     is_form "$@" && return 0
     case ${1-} in
         run | feasible | pairs)
-            if [ -e "$2" ]; then
+            if [ "$1:$#" = run:3 ]; then
+                say "the name of a file is empty: bin/house run CALL REGISTER < FILE"
+            elif [ "$1:$#" = run:2 ] && [ -e "$2" ]; then
+                say "the file goes to standard input: bin/house run < $(quoted "$2"); a call file and a register are two words: bin/house run CALL REGISTER < FILE"
+            elif [ -e "$2" ]; then
                 say "the file goes to standard input: bin/house $1 < $(quoted "$2")"
             else
                 say "\`$1\` takes no further words; the file goes to standard input: bin/house $1 < FILE"
@@ -129,15 +134,88 @@ warn_of_open_end() {
     fi
 }
 
-# One line on what happened, where the program's own answer may not say it.
+# Shows which of the lines of a call is refused that two files open: one of the opening, or one of the input.
+show_refused_behind() {
+    input=$1
+    shift
+    answer=$("$program" "$@" <"$input" 2>/dev/null)
+    number=$(printf '%s\n' "$answer" | sed -n 's/^refused \([0-9]*\) [a-z-]*$/\1/p')
+    reason=$(printf '%s\n' "$answer" | sed -n 's/^refused [0-9]* \([a-z-]*\)$/\1/p')
+    if [ -z "$number" ]; then
+        refused_somewhere
+        return
+    fi
+    # The first line behind the opening, where a line that is no command gets that far.
+    first=$(printf 'hello\n' | "$program" "$@" 2>/dev/null | sed -n 's/^refused \([0-9]*\) form$/\1/p')
+    if [ -z "$first" ]; then
+        say "line $number is refused; it is one of the lines that the call file and the register open the call with"
+    else
+        at=$((number - first + 1))
+        line=$(LC_ALL=C sed -n "$at{p;q;}" "$input" | tr -d '\15' | LC_ALL=C tr -c '\11\12\40-\176' '?' | cut -c 1-160)
+        if [ -n "$line" ]; then
+            say "line $number is refused; it is line $at of the input, behind $((first - 1)) that open the call: $line"
+        else
+            say "the input is refused at its end, behind its line $((at - 1)) and $((first - 1)) that open the call"
+        fi
+    fi
+    say "$reason: $(meaning "$reason")"
+}
+
+# The record of a CSV text with a number, on one line; blank lines are no records, and a quoted field may go over lines.
+record_of() {
+    LC_ALL=C tr -d '\15' <"$2" | LC_ALL=C awk -v wanted="$1" '
+        NR == 1 { sub(/^\357\273\277/, "") }
+        open == "" && $0 == "" { next }
+        {
+            record = open == "" ? $0 : record " / " $0
+            quotes = gsub(/"/, "\"")
+            if (quotes % 2) open = open == "" ? "open" : ""
+            if (open == "" && ++number == wanted) { print substr(record, 1, 160); exit }
+        }' | LC_ALL=C tr -c '\11\12\40-\176' '?'
+}
+
+# Which file is refused, where, and what has to stand there; the words are those of the call.
+show_bad_file() {
+    answer=$("$program" "$@" </dev/null 2>/dev/null)
+    case $answer in
+        'bad toml') say "$(quoted "$2") is no TOML document: a key, \`=\` and a value on a line, texts in double quotes, no key twice" ;;
+        'bad key other') say "$(quoted "$2") has a key without a meaning; there are version, seats, clusters, reviews, partition and seal" ;;
+        'bad key '*)
+            key=${answer#bad key }
+            case $key in
+                version) may="1 or 2, or is left out" ;;
+                seats) may="a whole number from 1 to 1000" ;;
+                clusters) may="a whole number from 2 to 30" ;;
+                reviews) may="a whole number from 1 to 20" ;;
+                partition) may="1 to 64 letters, digits and - in double quotes, or is left out" ;;
+                *) may="64 digits of 0-9 and a-f in double quotes, or is left out" ;;
+            esac
+            say "in $(quoted "$2") the key $key is missing, or not as it has to be: $may"
+            ;;
+        'bad record 1')
+            say "the first record of $(quoted "$3") is not the header of its version: name,cluster,conflicts, or in version 2 name,person,cluster,conflicts"
+            ;;
+        'bad record '*)
+            number=${answer#bad record }
+            say "record $number of $(quoted "$3"), the header counted, is not of its form: $(record_of "$number" "$3")"
+            say "a record has as many fields as the header: a name, in version 2 a person or nothing, a cluster or nothing (nothing beside a partition), and names with spaces between them"
+            ;;
+        *) say "the call file or the register is not of its form; bin/house help bad" ;;
+    esac
+}
+
+# One line on what happened, where the program's own answer may not say it. With names of files the answer may be of them.
 explain() {
+    and_files=
+    or_a_file=
+    [ "${2-}" != files ] || { and_files=" or a file"; or_a_file=", or a file has more than 16,777,216 bytes"; }
     case $1 in
         1) say "these words are none of the program's; bin/house help lists them" ;;
         3) say "no valid assignment exists; docs/running-a-call.md says how to read this shortage" ;;
-        4) say "the input could not be read, so nothing was written; see the file or the command before the pipe" ;;
+        4) say "the input$and_files could not be read, so nothing was written; see the file or the command before the pipe" ;;
         5) say "the output could not be written whole; see the disk, or the command behind the pipe" ;;
         6) say "there was not enough memory, so nothing was written" ;;
-        8) say "the input has more than 16,777,216 bytes or 1,048,576 lines" ;;
+        8) say "the input has more than 16,777,216 bytes or 1,048,576 lines$or_a_file" ;;
         129 | 1[3-5][0-9]) say "the program was ended by the signal $(($1 - 128))" ;;
     esac
 }

@@ -5,6 +5,9 @@ forms() {
 house reads a command file on standard input and writes its answer to standard output.
 
     bin/house run < FILE         runs the call and writes the report
+    bin/house run CALL REGISTER < FILE
+                                 the same of a call that a call file (TOML) and a register (CSV) open; FILE has the lines
+                                 behind the opening
     bin/house feasible < FILE    says whether the call has a valid assignment
     bin/house pairs < FILE       writes the assignment, a line for each pair
     bin/house help [WORD]        this page, or what a word means: one of the above, a reason, a kind of review lines
@@ -27,10 +30,12 @@ Exit status, and what is written:
      2  a line of the input, or its end, is
         refused                               `refused LINE REASON`
      3  no valid assignment exists            the shortage, in three lines
-     4  the input could not be read           nothing
+     4  the input or a file could not be
+        read                                  nothing
      5  the output could not be written       the front of what was due
      6  there was not enough memory           nothing
-     8  the input is too long                 `too-long`
+     8  the input or a file is too long       `too-long`
+     9  a file is not of its form             `bad toml`, `bad key KEY` or `bad record R`
     70  the program could not be built        nothing; only this script ends so
 TEXT
 }
@@ -91,6 +96,12 @@ house run < FILE
 Takes the lines of FILE one after another. At `assign` the assignment is the `pair` lines, where there are any, and
 is computed where there are none. Review lines are kept, or set aside and counted; they never end a run. Behind the
 draw it writes the report: a line for each cluster and for each applicant, with the exact chance that it had.
+
+house run CALL REGISTER < FILE
+Does the same behind the lines that the call file CALL, in TOML, and the register REGISTER, in CSV, open the call with:
+those of the call, its applicants, partition, places, conflicts and seal. The two files are looked at first, and where
+one of them is not of its form, or an opening line is refused, nothing of FILE is read. Lines are counted through both.
+docs/formats.md has both files.
 TEXT
             ;;
         feasible) cat <<'TEXT'
@@ -124,7 +135,15 @@ TEXT
             ;;
         too-long) cat <<'TEXT'
 too-long
-The input has more than 16,777,216 bytes or 1,048,576 lines, and no line within these limits ended the run.
+The input has more than 16,777,216 bytes or 1,048,576 lines, and no line within these limits ended the run; or a call
+file or a register has more than 16,777,216 bytes.
+TEXT
+            ;;
+        bad) cat <<'TEXT'
+bad toml, bad key KEY, bad record R
+The call file is no TOML document; what it has under KEY, or lacks there, is not as it has to be (`other` is any key
+without a meaning); the record R of the register is not of its form. Records are counted from 1, the header among them,
+blank lines not, and a quoted field may go over several lines. docs/formats.md, "The call file and the register"
 TEXT
             ;;
         aside) cat <<'TEXT'
@@ -138,7 +157,7 @@ TEXT
 help_on() {
     case $1 in
         run | feasible | pairs) help_on_form "$1" ;;
-        refused | short | too-long | aside) help_on_text "$1" ;;
+        refused | short | too-long | aside | bad) help_on_text "$1" ;;
         reason | reasons) reasons ;;
         kind | kinds) kinds ;;
         status | statuses) statuses ;;

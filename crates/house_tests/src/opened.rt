@@ -4,7 +4,8 @@ use crate::case::{Case, RUN};
 use crate::inputs::FOUR_REPORT;
 use call_file::Key;
 use house_base::Reason;
-use house_top::{Bad, Status};
+use house_io::{PlainShelf, PlainSink, PlainSource};
+use house_top::{Bad, Status, read_only};
 use std::test::Fail;
 
 const CALL: &[u8] = b"seats = 2\nclusters = 2\nreviews = 1\n";
@@ -120,5 +121,24 @@ fn open_a_call(rt: HostRuntime) -> Result<(), Fail> {
     for case in CASES {
         case.check_in_pieces(&rt, &[1, 7, 4096])?;
     }
+    Ok(())
+}
+
+#[test]
+fn open_a_call_over_files_that_tell_all(rt: HostRuntime) -> Result<(), Fail> {
+    let alloc = rt.alloc();
+    let mut input = PlainSource::new(INPUT.to_vec(alloc)?);
+    let mut output = PlainSink::with_room(alloc, FOUR_REPORT.len())?;
+    let mut files = PlainShelf::new(alloc);
+    files.put(alloc, "c", CALL.to_vec(alloc)?)?;
+    files.put(alloc, "r", REGISTER.to_vec(alloc)?)?;
+    let words = vec![in alloc;
+        "run".to_string(alloc)?,
+        "c".to_string(alloc)?,
+        "r".to_string(alloc)?,
+    ]?;
+    let status = read_only(alloc, &words, &mut input, &mut output, &mut files);
+    assert_eq!(rt; status, Status::Done);
+    assert_eq!(rt; output.given(), FOUR_REPORT.as_bytes());
     Ok(())
 }

@@ -1,9 +1,11 @@
-use Rattle.std.specs.Prelude.{ℕ, ◌+◌, ◌-◌, ◌^◌, List, min, codes}
+use Rattle.std.specs.Prelude.{ℕ, ◌+◌, ◌-◌, ◌^◌, List, Option, Some, None, min, codes}
 use Rattle.house_base.specs.declared.answer.Asides.{Asides}
 use Rattle.house_base.specs.declared.answer.Kind.{Kind}
 use Rattle.house_base.specs.declared.answer.Kind.TheVariants as kind
 use Rattle.house_base.specs.declared.answer.Reason.{Reason}
 use Rattle.house_base.specs.declared.answer.Reason.TheVariants as reason
+use Rattle.house_base.specs.declared.answer.Took.{Took}
+use Rattle.house_base.specs.declared.answer.Took.TheVariants as took
 
 -- the word of a reason
 abbrev pub reason_word : Reason → List ℕ
@@ -33,3 +35,8 @@ counted asides kind.Late = record asides { late = raised asides.late }
 counted asides kind.Unknown = record asides { unknown = raised asides.unknown }
 counted asides kind.Unassigned = record asides { unassigned = raised asides.unassigned }
 counted asides kind.Range = record asides { range = raised asides.range }
+
+-- what becomes of a line that is set aside under a kind, or under none
+abbrev pub took_as : Option Kind → Took
+took_as None = took.Kept
+took_as (Some k) = took.Aside k

@@ -6,7 +6,7 @@ use Rattle.std.specs.Option.{option_map_or, is_none, is_some}
 use Rattle.std.specs.Str.{bytes_eq}
 use Rattle.std.proofs.lemmas.Bool.{true≢false, and_right}
 use Rattle.std.proofs.lemmas.List.Folds.{list_any-append}
-use Rattle.house_base.specs.Answer.{counted}
+use Rattle.house_base.specs.Answer.{counted, took_as}
 use Rattle.house_base.specs.Grid.{Square, cell}
 use Rattle.house_base.specs.Setting.{Setting, IsSetting, size}
 use Rattle.house_base.specs.declared.answer.Asides.{Asides}
@@ -34,14 +34,14 @@ use Rattle.house_model.specs.Said.{has, those, register, denominator_of, bytes_o
 use Rattle.house_model.specs.Seeds.{seed_draw}
 use Rattle.house_model.specs.Faults.{looks_at_pairs}
 use Rattle.house_model.specs.Runs.{halt}
-use Rattle.house_model.specs.Reviews.{kind_of, first_of_kinds, asides_of, points_of, no_asides}
+use Rattle.house_model.specs.Reviews.{kind_of, first_of_kinds, asides_of, points_of, no_asides, took_of}
 use Rattle.review_desk.specs.Desk.{points_at}
-use Rattle.review_desk.specs.Line.{kind_before, kind_among, points_after, took_as, reviewer_of, proposal_of, points_in}
+use Rattle.review_desk.specs.Line.{kind_before, kind_among, points_after, reviewer_of, proposal_of, points_in}
 use Rattle.seat_quota.specs.Tally.{DeskTotals, IsTally}
 use Rattle.command_text.specs.Reading.{Carries, IsCommandLine, review_in}
 use Rattle.house_core.specs.declared.round.Round.{Round}
 use Rattle.house_core.specs.declared.state.State.{State}
-use Rattle.house_core.specs.Standing.{Says, HoldsPairs, IsRoundOf, IsTallyOf, IsTallyAfter, IsSilent, IsState, LooksAt, Reviews, Becomes, took_of, counted_as, kind_at, are_known, IsBarredMore, IsSameRegister, own_halt, turned_away, setting_in, pairs_in}
+use Rattle.house_core.specs.Standing.{Says, HoldsPairs, IsRoundOf, IsTallyOf, IsTallyAfter, IsSilent, IsState, LooksAt, Reviews, Becomes, counted_as, kind_at, are_known, IsBarredMore, IsSameRegister, own_halt, turned_away, setting_in, pairs_in}
 use Rattle.house_core.proofs.VerbLemmas.{blank_other, blank_not_review, review_other}
 use Rattle.house_core.proofs.PushLemmas.{has_other, has_same, call_number_first, seed_of_other, seed_of_first, seal_of_other, seal_of_first, draw_of_other, draw_of_first, draw_of_none, draw_of_seed, register_other, register_applicant, register_place, register_pair, register_conflict, phase_other}
 use Rattle.house_core.proofs.RefusalLemmas.{house_is_no_review}

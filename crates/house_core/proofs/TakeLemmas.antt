@@ -2,6 +2,7 @@
 use Rattle.std.proofs.Common.{◌≡◌, ℕ, Bool, true, false, Option, Some, None, Result, Ok, Err, [], ◌∷◌, ◌++◌, refl, sym, ap, ◌∙◌, subst}
 use Rattle.std.specs.Prelude.{OnOk, is_some, not, ◌||◌, ◌&&◌, if◌then◌else◌}
 use Rattle.std.proofs.lemmas.Bool.{not-false, true≢false}
+use Rattle.house_base.specs.Answer.{took_as}
 use Rattle.house_base.specs.declared.answer.Reason.{Reason}
 use Rattle.house_base.specs.declared.answer.Reason.TheVariants as reason
 use Rattle.house_base.specs.declared.limits.TheConstants.{MOST_CLUSTERS}
@@ -23,10 +24,9 @@ use Rattle.house_core.specs.declared.state.State.{State}
 use Rattle.house_core.specs.declared.round.Shortage.{Shortage}
 use Rattle.house_core.specs.declared.round.Stop.{Stop}
 use Rattle.house_core.specs.declared.round.Stop.TheVariants as stop
-use Rattle.house_core.specs.Standing.{Says, Becomes, Obeys, Takes, TakesFor, StateMayLack, LacksAt, MayLack, IsFormed, IsShortageOf, comes_again_in, is_call, turned_away, took_of, own_halt, setting_in}
+use Rattle.house_core.specs.Standing.{Says, Becomes, Obeys, Takes, TakesFor, StateMayLack, LacksAt, MayLack, IsFormed, IsShortageOf, comes_again_in, is_call, turned_away, own_halt, setting_in}
 use Rattle.house_base.specs.declared.answer.Took.TheVariants as took
-use Rattle.house_model.specs.Reviews.{kind_of}
-use Rattle.review_desk.specs.Line.{took_as}
+use Rattle.house_model.specs.Reviews.{kind_of, took_of}
 use Rattle.house_core.proofs.RefusalLemmas.{house_is_no_review}
 use Rattle.house_core.proofs.AdmittedLemmas.{turned_refuses}
 use Rattle.house_core.proofs.OwnLemmas.{bad_refused, read_halt, fault_is, none_by, holds_clusters}

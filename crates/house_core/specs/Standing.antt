@@ -3,7 +3,7 @@ use Rattle.std.specs.Option.{option_map_or}
 use Rattle.std.specs.Str.{bytes_eq}
 use Rattle.house_base.specs.declared.phase.Phase.TheVariants as phase
 use Rattle.house_base.specs.declared.limits.TheConstants.{MOST_APPLICANTS, MOST_OWN, MOST_CLUSTERS}
-use Rattle.house_base.specs.Answer.{counted}
+use Rattle.house_base.specs.Answer.{counted, took_as}
 use Rattle.house_base.specs.declared.answer.Asides.{Asides}
 use Rattle.house_base.specs.declared.answer.Kind.{Kind}
 use Rattle.house_base.specs.declared.answer.Kind.TheVariants as kind
@@ -35,7 +35,7 @@ use Rattle.house_model.specs.Ending.{Halt}
 use Rattle.house_model.specs.Faults.{looks_at_pairs}
 use Rattle.cut_gap.specs.Cut.{marked}
 use Rattle.review_desk.specs.Desk.{points_at}
-use Rattle.review_desk.specs.Line.{kind_before, kind_among, points_after, took_as}
+use Rattle.review_desk.specs.Line.{kind_before, kind_among, points_after}
 use Rattle.seat_quota.specs.Tally.{DeskTotals, IsTally}
 use Rattle.house_core.specs.declared.state.State.{State}
 use Rattle.house_core.specs.declared.round.Round.{Round}
@@ -301,10 +301,6 @@ LooksAt (Some r) old line answer new =
 abbrev pub Reviews : State → ReviewLine → Took → State → Type 0
 Reviews old line answer new = MatchOption (kind_before old.phase line) (LooksAt old.round old line answer new)
     (λ kind. (answer ≡ took.Aside kind) × (new ≡ record old { asides = counted old.asides kind }))
-
--- what becomes of a line that is not refused after the lines before it
-abbrev pub took_of : Goal → Lines → Text → Took
-took_of g before line = if is_review line then took_as (kind_of g before line) else took.Kept
 
 -- The tally is what these lines say: of their assignment, with the points that they give.
 pub record IsTallyOf (lines : Lines) (t : DeskTotals) : Type 0 where

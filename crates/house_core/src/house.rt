@@ -8,14 +8,14 @@ ghost use Rattle.peer_selection.specs.Shortage.{IsShortage, assignment_demand};
 ghost use Rattle.house_model.specs.declared.verb.Verb.TheVariants as verb;
 ghost use Rattle.house_model.specs.Ending.{ended, in_force, is_drawn, stop_of};
 ghost use Rattle.house_model.specs.Faults.{looks_at_pairs};
-ghost use Rattle.house_model.specs.Reviews.{asides_of};
+ghost use Rattle.house_model.specs.Reviews.{asides_of, took_of};
 ghost use Rattle.house_model.specs.Runs.{end_of, halt, settles};
 ghost use Rattle.house_model.specs.Said.{has, phase_after, setting};
 ghost use Rattle.house_model.specs.Text.{Lines, is_blank};
 ghost use Rattle.house_model.specs.Verbs.{is_review};
 ghost use Rattle.house_core.specs.Ends.{EndsAs, IsEnding, IsEndingAt, last_ending, stopped_fault};
 ghost use Rattle.house_core.specs.House.{IsDeskOf, IsGoing, IsStep, StandsFor, fell_short, has_setting, is_shortage, stopped_step};
-ghost use Rattle.house_core.specs.Standing.{MayLack, took_of};
+ghost use Rattle.house_core.specs.Standing.{MayLack};
 
 use crate::round::{Round, Shortage, Stop};
 use crate::state::State;

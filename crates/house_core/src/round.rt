@@ -1,10 +1,10 @@
 //! What an assignment begins, and why a line may end a run.
 
 ghost use Rattle.std.specs.Prelude.{◌≡◌, IfSome, IsSomeAnd, MatchOption, None, if◌then◌else◌};
+ghost use Rattle.house_base.specs.Answer.{took_as};
 ghost use Rattle.house_base.specs.declared.review.ReviewLine.{ReviewLine};
 ghost use Rattle.seat_quota.specs.Tally.{IsTally};
 ghost use Rattle.house_core.specs.Standing.{IsRoundAfter, are_known, kind_at};
-ghost use Rattle.review_desk.specs.Line.{took_as};
 
 use cut_gap::Cut;
 use house_base::{Kind, Plan, Reason, ReviewLine, Took};

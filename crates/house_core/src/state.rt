@@ -4,11 +4,11 @@ ghost use Rattle.std.specs.Prelude.{◌≡◌, ◌≢◌, ◌++◌, ◌∷◌, [
 ghost use Rattle.house_core.specs.declared.round.Shortage.{Shortage};
 ghost use Rattle.house_model.specs.Ending.{Halt};
 ghost use Rattle.house_model.specs.Runs.{halt};
-ghost use Rattle.house_model.specs.Reviews.{no_asides};
+ghost use Rattle.house_model.specs.Reviews.{no_asides, took_of};
 ghost use Rattle.house_model.specs.Text.{Lines, is_blank};
 ghost use Rattle.house_model.specs.Verbs.{allows, is_review};
 ghost use Rattle.house_core.specs.Standing.{IsFormed, IsShortageOf, IsState, Says, Takes, Reviews, MayLack};
-ghost use Rattle.house_core.specs.Standing.{comes_again_in, turned_away, took_of, is_call, setting_in};
+ghost use Rattle.house_core.specs.Standing.{comes_again_in, turned_away, is_call, setting_in};
 
 use crate::round::{Round, Stop};
 use command_text::{Line, read_line};

@@ -1,4 +1,4 @@
-use Rattle.std.specs.Prelude.{Option, Some, None, List, ◌++◌, if◌then◌else◌, ◌&&◌, not}
+use Rattle.std.specs.Prelude.{Option, Some, None, ◌++◌, if◌then◌else◌, ◌&&◌, not}
 use Rattle.house_base.specs.Text.{Text}
 use Rattle.house_model.specs.declared.goal.Goal.{Goal}
 use Rattle.house_model.specs.Ending.{Ended}

@@ -8,7 +8,9 @@ use Rattle.house_base.specs.declared.answer.Kind.{Kind}
 use Rattle.house_base.specs.declared.answer.Kind.TheVariants as kind
 use Rattle.house_base.specs.declared.phase.Phase.{Phase}
 use Rattle.house_base.specs.declared.phase.Phase.TheVariants as phase
-use Rattle.house_base.specs.Answer.{counted}
+use Rattle.house_base.specs.declared.answer.Took.{Took}
+use Rattle.house_base.specs.declared.answer.Took.TheVariants as took
+use Rattle.house_base.specs.Answer.{counted, took_as}
 use Rattle.house_base.specs.Text.{Text, among}
 use Rattle.peer_selection.specs.Profile.{Pairs, Profile}
 use Rattle.house_model.specs.declared.goal.Goal.{Goal}
@@ -64,6 +66,10 @@ first_of_kinds (k ∷ ks) = if k.1 then Some k.0 else first_of_kinds ks
 -- the kind under which a review line is set aside: the first that fits. It is kept where none does.
 unfoldable pub kind_of : Goal → Lines → Text → Option Kind
 kind_of g before line = first_of_kinds (kind_tests g before line)
+
+-- what becomes of a line after the lines before it, where it does not end the run: what is set aside is a review line
+abbrev pub took_of : Goal → Lines → Text → Took
+took_of g before line = if is_review line then took_as (kind_of g before line) else took.Kept
 
 -- the review lines that are kept, where these lines come after those before
 abbrev pub kept_after : Lines → Lines → Lines

@@ -2,7 +2,6 @@
 use Rattle.std.specs.Prelude.{◌≡◌, ◌≢◌, ◌+◌, ◌-◌, ◌^◌, ◌<◌, ◌⊎◌, ◌&&◌, true, false, List, [], ◌∷◌, ◌++◌, Option, Some, None, IfSome, IsSomeAnd, length}
 use Rattle.command_text.specs.Cutting.{Cutting, Feeding, AreFed, fresh, last_after, used_bytes}
 use Rattle.house_core.specs.House.{Standing, StandsFor}
-use Rattle.house_core.specs.Standing.{took_of}
 use Rattle.house_base.specs.Text.{Text}
 use Rattle.house_model.specs.declared.goal.Goal.{Goal}
 use Rattle.house_model.specs.declared.limits.TheConstants.{MOST_BYTES, MOST_LINES}
@@ -10,6 +9,7 @@ use Rattle.house_model.specs.declared.verb.Verb.TheVariants as verb
 use Rattle.house_model.specs.Ending.{in_force, stop_of}
 use Rattle.house_model.specs.Heard.{heard, is_over, whole_lines}
 use Rattle.house_model.specs.Outcome.{outcome}
+use Rattle.house_model.specs.Reviews.{took_of}
 use Rattle.house_model.specs.Runs.{end_of, ends_run, halt, looked_at, settles, taken}
 use Rattle.house_model.specs.Said.{has}
 use Rattle.house_model.specs.Text.{Lines}

@@ -2,8 +2,6 @@ use Rattle.std.specs.Prelude.{ℕ, Bool, false, Option, Some, None, [], ◌∷�
 use Rattle.std.specs.Option.{option_map_or, is_none}
 use Rattle.house_base.specs.declared.answer.Kind.{Kind}
 use Rattle.house_base.specs.declared.answer.Kind.TheVariants as kind
-use Rattle.house_base.specs.declared.answer.Took.{Took}
-use Rattle.house_base.specs.declared.answer.Took.TheVariants as took
 use Rattle.house_base.specs.declared.limits.TheConstants.{MOST_POINTS}
 use Rattle.house_base.specs.declared.phase.Phase.{Phase}
 use Rattle.house_base.specs.declared.review.ReviewLine.{ReviewLine}
@@ -47,11 +45,6 @@ kind_among s pairs line = first_of_kinds (
     ∷ (kind.Unassigned, not (pairs (reviewer_of s line) (proposal_of s line)))
     ∷ (kind.Range, not (option_map_or (λ x. nat_le x MOST_POINTS) line.points false))
     ∷ [])
-
--- what becomes of a line of a kind, or of none
-abbrev pub took_as : Option Kind → Took
-took_as None = took.Kept
-took_as (Some k) = took.Aside k
 
 -- the points after a line: a kept line sets those of its one pair, and all others stay
 unfoldable pub points_after : Setting → Pairs → Points → ReviewLine → Points

@@ -1,13 +1,14 @@
 //! The points that stand for each pair of an assignment.
 
 ghost use Rattle.std.specs.Prelude.{◌≡◌, ℕ, ◌<◌, ◌≤◌, false, Some, None, IsTrue, IfOk, IfErr, ◌==◌, ◌&&◌, if◌then◌else◌};
+ghost use Rattle.house_base.specs.Answer.{took_as};
 ghost use Rattle.house_base.specs.Grid.{cell};
 ghost use Rattle.house_base.specs.Setting.{Setting, size};
 ghost use Rattle.house_base.specs.declared.answer.Kind.{Kind};
 ghost use Rattle.house_base.specs.declared.answer.Took.TheVariants.{Aside};
 ghost use Rattle.peer_selection.specs.Profile.{is_valid};
 ghost use Rattle.review_desk.specs.Desk.{IsSetUp, points_at};
-ghost use Rattle.review_desk.specs.Line.{kind_among, reviewer_of, proposal_of, points_in, took_as, points_after};
+ghost use Rattle.review_desk.specs.Line.{kind_among, reviewer_of, proposal_of, points_in, points_after};
 
 use crate::places::{applicants, persons, proposal_place, reviewer_place};
 use house_base::limits::MOST_POINTS;

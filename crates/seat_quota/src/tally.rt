@@ -1,6 +1,7 @@
 //! A desk with its totals, which follow each review.
 
 ghost use Rattle.std.specs.Prelude.{◌≡◌, ℕ, ◌<◌, ◌≤◌, IsTrue, IfOk, slice_index, ◌==◌, ◌&&◌, if◌then◌else◌};
+ghost use Rattle.house_base.specs.Answer.{took_as};
 ghost use Rattle.house_base.specs.Grid.{cell};
 ghost use Rattle.house_base.specs.Setting.{size};
 ghost use Rattle.house_base.specs.declared.answer.Kind.{Kind};
@@ -8,7 +9,7 @@ ghost use Rattle.house_base.specs.declared.answer.Took.TheVariants.{Aside};
 ghost use Rattle.peer_selection.specs.Counting.{sum_below};
 ghost use Rattle.peer_selection.specs.Profile.{is_valid};
 ghost use Rattle.review_desk.specs.Desk.{points_at};
-ghost use Rattle.review_desk.specs.Line.{kind_among, took_as, points_after};
+ghost use Rattle.review_desk.specs.Line.{kind_among, points_after};
 ghost use Rattle.seat_quota.specs.Tally.{IsTally};
 
 use crate::row::{MOST_ROW, row_cents};

@@ -1,5 +1,5 @@
 use Rattle.std.proofs.Common.{◌++◌, ◌∷◌, [], ◌∙◌, sym}
-use Rattle.house_core.specs.Standing.{took_of}
+use Rattle.house_model.specs.Reviews.{took_of}
 use Rattle.house_model.specs.Ending.{stop_of}
 use Rattle.house_model.specs.Runs.{halt}
 use Rattle.input_run.proofs.HearLemmas.{line_goes_on, line_settles, line_stops, line_took, refused_stops, short_stops}

@@ -1,7 +1,9 @@
 pub mod AsideCountLemmas
+pub mod AsciiLemmas
 pub mod AtIndexLemmas
 pub mod DoneLemmas
 pub mod ExampleLemmas
+pub mod EndTextLemmas
 pub mod FormedNameLemmas
 pub mod GroupLemmas
 pub mod HeadlineLemmas
@@ -11,6 +13,7 @@ pub mod IsolationLemmas
 pub mod KeyOrderLemmas
 pub mod KindLemmas
 pub mod LateLineLemmas
+pub mod MarkLemmas
 pub mod NamedPlaceLemmas
 pub mod NamingLemmas
 pub mod OrderedLemmas

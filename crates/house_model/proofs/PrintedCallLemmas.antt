@@ -21,7 +21,7 @@ use Rattle.house_model.proofs.NamedPlaceLemmas.{HasNamesOf-setting, names-by_num
 use Rattle.house_model.proofs.PrintedLemmas.{HaveFormedNames, names-outcome, chance_at-outcome}
 use Rattle.house_model.proofs.RegisterPeopleLemmas.{map-map}
 
-below-In : (n i : ℕ) → In i (numbers_below n) → i < n
+pub below-In : (n i : ℕ) → In i (numbers_below n) → i < n
 below-In n i m =
     let at = In-Contains i (numbers_below n) m in
     omega (arith, at.1, at.2, length-numbers_below n, get_or-numbers_below n at.0 i (omega (arith, at.1, length-numbers_below n)))

@@ -1,6 +1,6 @@
 -- Texts whose rows of words stand one on a line.
 use Rattle.std.proofs.Common.{◌≡◌, ℕ, ◌-◌, Bool, true, false, not, ◌&&◌, eqb, List, [], ◌∷◌, ◌++◌, length, map, flat_map, All, refl, ap, ◌∙◌, inl, inr, append_assoc}
-use Rattle.std.specs.Prelude.{slice_index}
+use Rattle.std.specs.Prelude.{nat_lt, slice_index}
 use Rattle.std.specs.List.{slice_split, join_with_byte, list_all}
 use Rattle.std.proofs.lemmas.Bool.{and_parts, and_from, cases_lt, cond-false, not-true}
 use Rattle.std.proofs.lemmas.List.{get_or_past}
@@ -69,9 +69,9 @@ lines-feeds text xs inner =
 
 -- Words that are joined.
 
--- a byte that ends neither a line nor a word
+-- a byte of ASCII that ends neither a line nor a word
 abbrev pub is_plain : ℕ → Bool
-is_plain b = is_inner b && not (is_gap b)
+is_plain b = is_inner b && (not (is_gap b) && nat_lt b 128)
 
 -- whether a text is a word: it has a byte, and only such
 abbrev pub is_word : Text → Bool
@@ -82,10 +82,11 @@ AreWords [] = Unit {0}
 AreWords (w ∷ ws) = (is_word w ≡ true) × AreWords ws
 
 plain_inner : (b : ℕ) → is_plain b ≡ true → is_inner b ≡ true
-plain_inner b h = (and_parts (is_inner b) (not (is_gap b)) h).0
+plain_inner b h = (and_parts (is_inner b) (not (is_gap b) && nat_lt b 128) h).0
 
 plain_no_gap : (b : ℕ) → is_plain b ≡ true → is_gap b ≡ false
-plain_no_gap b h = not-true (is_gap b) (and_parts (is_inner b) (not (is_gap b)) h).1
+plain_no_gap b h =
+    not-true (is_gap b) (and_parts (not (is_gap b)) (nat_lt b 128) (and_parts (is_inner b) (not (is_gap b) && nat_lt b 128) h).1).0
 
 word_inner : (w : Text) → is_word w ≡ true → list_all is_inner w ≡ true
 word_inner w h =

@@ -1,5 +1,5 @@
 -- The setting that a register makes, whether persons were placed or their clusters are drawn from a seed.
-use Rattle.std.proofs.Common.{◌≡◌, ℕ, ◌*◌, List, length, map, IsTrue, Option, Some, None, sym, ap, ◌∙◌, subst}
+use Rattle.std.proofs.Common.{◌≡◌, ℕ, ◌*◌, List, length, map, All, IsTrue, Option, Some, None, sym, ap, ◌∙◌, subst}
 use Rattle.std.specs.List.Sorted.{IsPermutation}
 use Rattle.std.proofs.lemmas.List.{length-map}
 use Rattle.std.proofs.lemmas.List.Sorted.{IsPermutation-refl, length_permutation}
@@ -10,7 +10,7 @@ use Rattle.house_base.specs.Text.{Text}
 use Rattle.house_base.proofs.InOrderLemmas.{In, All-In, All-from_In, map-In}
 use Rattle.peer_selection.specs.Profile.{denominator}
 use Rattle.house_model.specs.ReadBack.{HasFormedNames}
-use Rattle.house_model.specs.Register.{Register, IsRegister, persons, owners_from}
+use Rattle.house_model.specs.Register.{Register, persons, owners_from}
 use Rattle.house_model.specs.Said.{denominator_of}
 use Rattle.house_model.specs.Seeds.{seeded_persons, seeded_register, seeded_setting, open_setting_in, setting_in, drawn_persons, drawn_register}
 use Rattle.house_model.proofs.AtIndexLemmas.{In-slice_get}
@@ -18,7 +18,7 @@ use Rattle.house_model.proofs.GroupLemmas.{firsts-In}
 use Rattle.house_model.proofs.KeyOrderLemmas.{drawn_persons-moves}
 use Rattle.house_model.proofs.OrderedLemmas.{IsOrder, people_in, name_of_number_in, IsSetting-setting_in}
 use Rattle.house_model.proofs.RegisterSettingLemmas.{names-owners_from, In-owners_from}
-use Rattle.house_model.proofs.SeedLemmas.{IsOrder-permutation, IsOrder-drawn, IsOrder-seeded, IsRegister-drawn, MakesDrawn, MakesSetting-drawn, setting_in-seeded}
+use Rattle.house_model.proofs.SeedLemmas.{IsOrder-permutation, IsOrder-drawn, IsOrder-seeded, MakesDrawn, MakesSetting-drawn, setting_in-seeded}
 
 -- the persons in place order are the persons
 pub seeded_persons-moves : (seed : Option Text) (reg : Register) → IsPermutation (persons reg) (seeded_persons seed reg)
@@ -49,18 +49,22 @@ denominator-seeded seed seats clusters reviews reg =
 
 -- The names are those of the register.
 
-name_of_person : (reg : Register) (t : Text) → IsRegister reg → In t (persons reg) → IsTrue (is_name t)
+-- the names of its applicants and of their persons are of their form
+abbrev pub AreFormedIn : Register → Type 0
+AreFormedIn reg = All (λ a. IsTrue (is_name a.0) × IsTrue (is_name a.1)) reg.applicants
+
+name_of_person : (reg : Register) (t : Text) → AreFormedIn reg → In t (persons reg) → IsTrue (is_name t)
 unfolding persons
 name_of_person reg t h m =
     let at = map-In (λ a. a.1) t reg.applicants (firsts-In (map (λ a. a.1) reg.applicants) t m) in
-    ap is_name at.2 ∙ (All-In (λ a. IsTrue (is_name a.0) × IsTrue (is_name a.1)) reg.applicants at.0 h.names_formed at.1).1
+    ap is_name at.2 ∙ (All-In (λ a. IsTrue (is_name a.0) × IsTrue (is_name a.1)) reg.applicants at.0 h at.1).1
 
-name_of_applicant : (reg : Register) (t : Text) → IsRegister reg → In t (map (λ a. a.0) reg.applicants) → IsTrue (is_name t)
+name_of_applicant : (reg : Register) (t : Text) → AreFormedIn reg → In t (map (λ a. a.0) reg.applicants) → IsTrue (is_name t)
 name_of_applicant reg t h m =
     let at = map-In (λ a. a.0) t reg.applicants m in
-    ap is_name at.2 ∙ (All-In (λ a. IsTrue (is_name a.0) × IsTrue (is_name a.1)) reg.applicants at.0 h.names_formed at.1).0
+    ap is_name at.2 ∙ (All-In (λ a. IsTrue (is_name a.0) × IsTrue (is_name a.1)) reg.applicants at.0 h at.1).0
 
-HasFormedNames-in : (order : List Text) (seats clusters reviews : ℕ) (reg : Register) → IsRegister reg → IsOrder reg order → HasFormedNames (setting_in order seats clusters reviews reg)
+HasFormedNames-in : (order : List Text) (seats clusters reviews : ℕ) (reg : Register) → AreFormedIn reg → IsOrder reg order → HasFormedNames (setting_in order seats clusters reviews reg)
 unfolding setting_in open_setting_in
 HasFormedNames-in order seats clusters reviews reg h o = record {
   persons = All-from_In (λ owner. IsTrue (is_name owner.name)) (owners_from reg 0 order)
@@ -69,12 +73,13 @@ HasFormedNames-in order seats clusters reviews reg h o = record {
       (λ person m. name_of_applicant reg person.name h (In-slice_get (map (λ a. a.0) reg.applicants) person.number person.name (name_of_number_in reg order o person m)));
 }
 
-IsRegister-seeded : (seed : Option Text) (clusters : ℕ) (reg : Register) → IsRegister reg → IsRegister (seeded_register seed clusters reg)
-IsRegister-seeded None clusters reg h = h
-IsRegister-seeded (Some seed) clusters reg h = IsRegister-drawn seed clusters reg h
+AreFormedIn-seeded : (seed : Option Text) (clusters : ℕ) (reg : Register) → AreFormedIn reg → AreFormedIn (seeded_register seed clusters reg)
+unfolding drawn_register
+AreFormedIn-seeded None clusters reg h = h
+AreFormedIn-seeded (Some seed) clusters reg h = h
 
-pub HasFormedNames-seeded : (seed : Option Text) (seats clusters reviews : ℕ) (reg : Register) → IsRegister reg → HasFormedNames (seeded_setting seed seats clusters reviews reg)
+pub HasFormedNames-seeded : (seed : Option Text) (seats clusters reviews : ℕ) (reg : Register) → AreFormedIn reg → HasFormedNames (seeded_setting seed seats clusters reviews reg)
 HasFormedNames-seeded seed seats clusters reviews reg h =
     subst HasFormedNames (setting_in-seeded seed seats clusters reviews reg)
-    (HasFormedNames-in (seeded_persons seed reg) seats clusters reviews (seeded_register seed clusters reg) (IsRegister-seeded seed clusters reg h)
+    (HasFormedNames-in (seeded_persons seed reg) seats clusters reviews (seeded_register seed clusters reg) (AreFormedIn-seeded seed clusters reg h)
     (IsOrder-seeded seed clusters reg (seeded_persons-moves seed reg)))

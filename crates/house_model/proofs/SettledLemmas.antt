@@ -49,7 +49,7 @@ through-ends (line ∷ lines) h =
           }
     ]
 
-in_force-free : (rule : Rule) (before lines : Lines) → stop_after rule before lines ≡ None → in_force_after rule before lines ≡ lines
+pub in_force-free : (rule : Rule) (before lines : Lines) → stop_after rule before lines ≡ None → in_force_after rule before lines ≡ lines
 in_force-free rule before [] free = refl
 in_force-free rule before (line ∷ lines) free =
     let parts = none_first (rule before line) (λ w. (length before + 1, w)) (stop_after rule (before ++ line ∷ []) lines) free in

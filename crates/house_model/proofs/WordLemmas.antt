@@ -14,7 +14,7 @@ use Rattle.house_model.specs.Report.{over}
 use Rattle.house_model.specs.Text.{is_empty}
 use Rattle.house_model.proofs.RowTextLemmas.{is_plain, is_word}
 
-word_bytes : (w : Text) → is_word w ≡ true → list_all is_plain w ≡ true
+pub word_bytes : (w : Text) → is_word w ≡ true → list_all is_plain w ≡ true
 word_bytes w h = (and_parts (not (is_empty w)) (list_all is_plain w) h).1
 
 -- a name is a word
@@ -22,7 +22,7 @@ word_bytes w h = (and_parts (not (is_empty w)) (list_all is_plain w) h).1
 name_byte_plain : (b : ℕ) → is_name_byte b ≡ true → is_plain b ≡ true
 name_byte_plain b h = grind (arith, nat_tests)
 
-name_parts : (w : Text) → is_name w ≡ true → (not (is_empty w) ≡ true) × (list_all is_name_byte w ≡ true)
+pub name_parts : (w : Text) → is_name w ≡ true → (not (is_empty w) ≡ true) × (list_all is_name_byte w ≡ true)
 unfolding is_name
 name_parts [] h = cc
 name_parts (x ∷ xs) h = (refl, grind (arith, nat_tests))

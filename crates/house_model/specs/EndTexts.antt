@@ -4,7 +4,7 @@ use Rattle.house_model.specs.declared.goal.Goal.{Goal}
 use Rattle.house_model.specs.declared.goal.Goal.TheVariants as goal
 use Rattle.house_model.specs.Ending.{Ended}
 use Rattle.house_model.specs.Report.{line_of, refused_words}
-use Rattle.house_model.specs.Runs.{report_of}
+use Rattle.house_model.specs.Runs.{end_of, report_of, taken}
 use Rattle.house_model.specs.Said.{assigned, setting}
 use Rattle.house_model.specs.Text.{Lines}
 use Rattle.house_model.specs.Texts.{short_text, pairs_text}
@@ -28,3 +28,7 @@ IsTextOfEnd Ended.Done g lines text = text ≡ done_text g lines
 IsTextOfEnd Ended.Settled g lines text = text ≡ done_text g lines
 IsTextOfEnd (Ended.Refused line reason) g lines text = text ≡ line_of (refused_words line reason)
 IsTextOfEnd Ended.Short g lines text = IsShortText text lines
+
+-- the text with which a list of lines ends for the report: its report, its refusal or its shortage
+abbrev pub IsEndText : Lines → List ℕ → Type 0
+IsEndText lines text = IsTextOfEnd (end_of goal.Run lines) goal.Run (taken goal.Run lines) text

@@ -16,6 +16,7 @@ pub mod ReadBack
 pub mod Heard
 pub mod Outcome
 pub mod EndTexts
+pub mod LineMarks
 pub mod Examples
 pub mod Isolation
 pub mod Interleaving

@@ -3,6 +3,7 @@
 #![tactic(auto)]
 
 pub mod command;
+pub mod end_texts;
 pub mod examples;
 pub mod faults;
 pub mod goal;

@@ -19,4 +19,4 @@ pub returns-clause-denominator : goal.returns-clause-denominator
 returns-clause-denominator c = denominator-seeded
 
 pub returns-clause-names : goal.returns-clause-names
-returns-clause-names c = HasFormedNames-seeded
+returns-clause-names c = λ seed seats clusters reviews reg h. HasFormedNames-seeded seed seats clusters reviews reg h.names_formed

@@ -38,7 +38,7 @@ record IsReading (read last : Text → Lines) : Type 0 where
   at_feed : (front more : Text) → HasNoFeed front → read (front ++ 10 ∷ more) ≡ without_return front ∷ read more
   at_last : (text : Text) → HasNoFeed text → last text ≡ read text
 
-no_feed_grows : (begun more : Text) → HasNoFeed begun → HasNoFeed more → HasNoFeed (begun ++ more)
+pub no_feed_grows : (begun more : Text) → HasNoFeed begun → HasNoFeed more → HasNoFeed (begun ++ more)
 no_feed_grows begun more = All-append (λ byte. is_feed byte ≡ false) begun more
 
 -- the lines that feeds end and what they leave, which are to be the reading of all bytes

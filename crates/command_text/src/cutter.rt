@@ -28,10 +28,13 @@ pub struct Cutter {
 impl Model for Cutter {
     ghost use Rattle.std.specs.Prelude.{Some, None, if◌then◌else◌};
     ghost use Rattle.command_text.specs.Cutting.{Cutting};
+    ghost use Rattle.command_text.specs.Held.{HasNoFeed};
 
     ghost Value = { Cutting };
 
     ghost view = { λ c. record { begun = c.begun.items; ended = if c.whole then Some c.line.items else None } };
+
+    ghost invariant = { λ c. HasNoFeed c.begun.items × HasNoFeed c.line.items };
 }
 
 impl Cutter {
@@ -55,6 +58,7 @@ impl Cutter {
     /// be fed.
     pub fn whole_line<'a>(&self, piece: &'a [u8]) -> Option<(&'a [u8], usize)>
         ensures found { IfSome result (λ found. IsWholeLine self.now piece.now found.1 found.0.now) }
+        ensures no_line_feed { IfSome result (λ found. HasNoFeed found.0.now) }
         ensures none { IfNone result (self.now.begun ≡ [] → HasNoFeed piece.now) }
     {
         if !self.begun.is_empty() {
@@ -96,7 +100,8 @@ impl Cutter {
 
     /// The line that the last feed ended, without its line end. None where it ended none.
     pub fn line(&self) -> Option<&[u8]>
-        ensures { option_copied result ≡ ended_line self.now }
+        ensures ended { option_copied result ≡ ended_line self.now }
+        ensures no_line_feed { IfSome result (λ line. HasNoFeed line.now) }
     {
         if self.whole {
             Some(without_return(&self.line))
@@ -107,7 +112,8 @@ impl Cutter {
 
     /// What was fed since the last line feed, without a carriage return at its end. None where nothing was.
     pub fn rest(&self) -> Option<&[u8]>
-        ensures { option_copied result ≡ rest_of self.now }
+        ensures rest { option_copied result ≡ rest_of self.now }
+        ensures no_line_feed { IfSome result (λ rest. HasNoFeed rest.now) }
     {
         if self.begun.is_empty() {
             None

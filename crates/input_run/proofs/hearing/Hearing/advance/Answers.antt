@@ -9,7 +9,7 @@ use Rattle.input_run.proofs.hearing.Hearing.advance.Goals as goal
 pub returns-in_default-line-clause-advances : goal.returns-in_default-line-clause-advances
 returns-in_default-line-clause-advances c = λ g opening heard hears.
     heard_more g opening heard c.args.piece.now c.args.self.now c.feed.new.self c.in-Ok.fed.used c.in-Ok.fed.whole hears c.in-Ok.ensures.ok
-    (sym c.line.ensures ∙ ap option_copied c.in_default-line.is) c.requires.room c.requires.lines
+    (sym c.line.ensures.ended ∙ ap option_copied c.in_default-line.is) c.requires.room c.requires.lines
 
 pub returns-in-Some-clause-advances : goal.returns-in-Some-clause-advances
 returns-in-Some-clause-advances c = λ g opening heard hears.
@@ -25,7 +25,7 @@ returns-clause-advances c = λ g opening heard hears.
     let old = c.args.self.now in
     let own = subst (λ g. HasHeard g opening heard old) (sym hears.goal) hears in
     let line = c.in-Some-line.line.now in
-    let ended : ended_line c.feed.new.self ≡ Some line = sym c.line.ensures ∙ ap option_copied c.in-Some-line.is in
+    let ended : ended_line c.feed.new.self ≡ Some line = sym c.line.ensures.ended ∙ ap option_copied c.in-Some-line.is in
     let takes = c.take_line-2.ensures (opening ++ whole_lines heard) own.stands own.go_on (countable opening heard own.few own.within) in
     subst (λ g. Advances g opening (heard ++ take c.in-Ok.fed.used c.args.piece.now) c.progress-2.result (record { goal = old.goal; house = c.take_line-2.new.house; cutter = c.feed.new.self; bytes = old.bytes + c.in-Ok.fed.used; lines = old.lines + 1 })) hears.goal
     (subst (λ p. Advances old.goal opening (heard ++ take c.in-Ok.fed.used c.args.piece.now) p (record { goal = old.goal; house = c.take_line-2.new.house; cutter = c.feed.new.self; bytes = old.bytes + c.in-Ok.fed.used; lines = old.lines + 1 })) (sym c.progress-2.ensures)

@@ -1,6 +1,7 @@
 pub mod CountLemmas
 pub mod EntryLemmas
 pub mod FewLemmas
+pub mod FoundLemmas
 pub mod KeyLemmas
 pub mod OpenedLemmas
 pub mod OpeningLemmas

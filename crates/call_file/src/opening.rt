@@ -8,7 +8,7 @@ ghost use Rattle.call_file.specs.Keys.{said_by};
 ghost use Rattle.call_file.specs.Opening.{lines_in, opened, read_call};
 
 use crate::OpenFault;
-use crate::pass::{Part, push_part};
+use crate::pass::{Part, push_found, push_part};
 use crate::settings::{Settings, read_settings};
 use command_text::{Command, Lines, print_command};
 use house_base::{Memory, Seed};
@@ -41,7 +41,8 @@ fn read_call(alloc: Global, call: &[u8]) -> Result<Settings, OpenFault>
     }
 }
 
-/// The lines that a register gives with what the call file says. It is read once for each part.
+/// The lines that a register gives with what the call file says. It is read for the applicants, and once more for each
+/// other part to which a record adds.
 fn lines_of(alloc: Global, settings: &Settings, register: &[u8]) -> Result<Lines, OpenFault>
     ensures ok { IfOk result (λ lines. lines_in (said_by settings.now) register.now ≡ Ok lines) }
     ensures refused { IfErr result (λ fault. fault ≢ OpenFault.Memory → lines_in (said_by settings.now) register.now ≡ Err fault) }
@@ -49,10 +50,17 @@ fn lines_of(alloc: Global, settings: &Settings, register: &[u8]) -> Result<Lines
 {
     let mut opening = Opening::new(alloc);
     opening.push(alloc, &Command::Call(settings.call))?;
-    push_part(alloc, settings, Part::Applicants, register, &mut opening)?;
+    let found = push_part(alloc, settings, Part::Applicants, register, &mut opening)?;
     push_seed(alloc, settings.partition, &mut opening)?;
-    push_part(alloc, settings, Part::Places, register, &mut opening)?;
-    push_part(alloc, settings, Part::Conflicts, register, &mut opening)?;
+    push_found(alloc, settings, Part::Places, found, register, &mut opening)?;
+    push_found(
+        alloc,
+        settings,
+        Part::Conflicts,
+        found,
+        register,
+        &mut opening,
+    )?;
     push_digest(alloc, settings.seal, &mut opening)?;
     Ok(opening.into_lines())
 }

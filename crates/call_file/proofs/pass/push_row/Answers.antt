@@ -15,7 +15,7 @@ use Rattle.call_file.proofs.pass.push_row.Goals as goal
 
 pub push_conflicts-requires : goal.push_conflicts-requires
 push_conflicts-requires c =
-    subst (λ text. list_all is_name (words text) ≡ true) (sym c.conflicts_field.ensures)
+    subst (λ text. list_all is_name (words text) ≡ true) (sym c.conflicts_field-conflicts.ensures)
     (conflicts_listed (said_by c.args.settings.now) (fields_of c.args.row.now) (sym c.in-Some.ensures.form))
 
 pub returns-in_ok-push-in-Applicants-clause-pushed : goal.returns-in_ok-push-in-Applicants-clause-pushed
@@ -41,6 +41,6 @@ returns-in_ok-push_conflicts-in-Conflicts-clause-pushed c =
     let v = c.args.settings.now.version in
     let fields = fields_of c.args.row.now in
     let entry_is : c.in-Some.entry ≡ entry_of v fields = c.in-Some.ensures.value in
-    let listed = subst (λ text. c.push_conflicts.new.opening ≡ c.args.opening.now ++ map command_line (map (command.Conflict c.in-Some.entry.person) (words text))) c.conflicts_field.ensures c.in_ok-push_conflicts-in-Conflicts.ensures in
+    let listed = subst (λ text. c.push_conflicts.new.opening ≡ c.args.opening.now ++ map command_line (map (command.Conflict c.in-Some.entry.person) (words text))) c.conflicts_field-conflicts.ensures c.in_ok-push_conflicts-in-Conflicts.ensures in
     let pushed = subst (λ (entry : Entry). c.push_conflicts.new.opening ≡ c.args.opening.now ++ map command_line (map (command.Conflict entry.person) (words (conflicts_field v fields)))) entry_is listed in
     rw c.in-Conflicts.is (conflicts_pushed v (given_in c.args.given.now) (given_in c.args.given.now) fields c.args.opening.now c.push_conflicts.new.opening pushed)

@@ -5,9 +5,10 @@ use Rattle.std.proofs.lemmas.List.{append-nil}
 use Rattle.csv.specs.Records.{fields_of}
 use Rattle.command_text.specs.Printing.{command_line}
 use Rattle.call_file.specs.Keys.{said_by}
-use Rattle.call_file.specs.Pass.{due, given_in, place_cmp}
+use Rattle.call_file.specs.Pass.{due, either, found_in, given_in, place_cmp}
 use Rattle.call_file.specs.Records.{BeginsUneven, rows_left}
 use Rattle.call_file.specs.Register.{bad_record_below_header, fits}
+use Rattle.call_file.proofs.FoundLemmas.{found_at_end, found_behind}
 use Rattle.call_file.proofs.OpenedLemmas.{refused_at}
 use Rattle.call_file.proofs.PassLemmas.{all_due, formed_behind, none_due, off_first, record_width}
 use Rattle.call_file.proofs.pass.push_rows.Goals as goal
@@ -27,6 +28,10 @@ records-preserved c =
       width = c.in-Ok-true.ensures.width yes ∙ ap Some (record_width said fields fit);
       few = omega (arith, fewer, inv.few);
       formed = formed_behind said c.records.number fields behind fit ∙ ap (bad_record_below_header said c.records.number) (sym found) ∙ inv.formed;
+      found = ap (λ f. either f (found_in c.args.settings.now.version behind)) c.or-found.ensures
+          ∙ found_behind c.args.settings.now.version c.records.found c.in-Ok.more fields behind c.in-Ok.ensures.found
+          ∙ ap (λ rows. either c.records.found (found_in c.args.settings.now.version rows)) (sym found)
+          ∙ inv.found;
       lines = c.in-Ok.ensures.pushed behind
           ∙ ap (λ rows. c.records.opening ++ map command_line (due c.args.part c.args.settings.now.version (given_in c.records.given) rows)) (sym found)
           ∙ inv.lines;
@@ -40,6 +45,14 @@ returns-in-Ok-false-clause-pushed c =
     sym (ap (λ cs. c.records.opening ++ map command_line cs) (ap (due k v (given_in c.records.given)) end ∙ none_due k v (given_in c.records.given)) ∙ append-nil c.records.opening)
     ∙ c.records.invariant.lines
     ∙ ap (λ cs. c.args.opening.now ++ map command_line cs) (all_due k v (given_in c.new-given.result) (rows_left c.args.reader.now) (λ p. ap (list_any (is_at (place_cmp p))) c.new-given.ensures.empty))
+
+pub returns-in-Ok-false-clause-found : goal.returns-in-Ok-false-clause-found
+returns-in-Ok-false-clause-found c =
+    let v = c.args.settings.now.version in
+    let end = c.in-Ok-false.ensures.end (ap Ok c.in-Ok-false.field-0-test) in
+    sym (found_at_end v c.records.found)
+    ∙ ap (λ rows. either c.records.found (found_in v rows)) (sym end)
+    ∙ c.records.invariant.found
 
 pub returns-in-Err-clause-refused : goal.returns-in-Err-clause-refused
 returns-in-Err-clause-refused c = λ real.

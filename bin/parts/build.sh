@@ -176,16 +176,49 @@ at_work() {
     done
 }
 
-# Says how far the build is, where it got further, and every 20 seconds.
+# How many functions are checked of the crate at work in the chain, as the toolchain said last, if it said so; at its end
+# it says that the crate is proved.
+functions_done() {
+    awk '/^logic=proved/ { said = "" }
+        /^so far: [0-9]+ of [0-9]+ functions checked/ { said = $3 " of " $5 }
+        /^checked .*, [0-9]+ of [0-9]+$/ { said = $(NF - 2) " of " $NF }
+        END { print said }' "$room/chain"
+}
+
+# The crates at work, and what tells that each goes on: the minutes that it took, and in the chain its functions.
+at_work_since() {
+    for name in $names; do
+        [ -e "$room/since-$name" ] || date +%s >"$room/since-$name"
+        minutes=$((($(date +%s) - $(cat "$room/since-$name")) / 60))
+        checked=
+        [ "$stage" != chain ] || checked=$(functions_done)
+        printf '%s' " $name$([ "$minutes" = 0 ] || echo " for $minutes min")${checked:+, $checked functions checked}"
+    done
+}
+
+# How many crates the toolchain has read, which it does before it proves one.
+crates_read() {
+    grep -c '^only=' "$room/all"
+}
+
+# Seconds between two lines on a build that stands at the same crates.
+often=20
+
+# Says how far the build is, where other crates are at work, and often enough besides.
 tell() {
     names=$(at_work)
-    state="$((total - $(echo "$left" | wc -w))) of $total crates proved${names:+, now ${names% }}"
-    [ "$stage" = chain ] || [ -n "$names" ] || [ -s "$room/all" ] || state="$state, reading all"
-    if [ "$state" != "$shown" ] || [ $(($(date +%s) - told_at)) -ge 20 ]; then
-        say "$state ($(passed_time))"
-        shown=$state
-        told_at=$(date +%s)
+    state="$((total - $(echo "$left" | wc -w))) of $total crates proved"
+    if [ "$state $names" = "$shown" ] && [ $(($(date +%s) - told_at)) -lt "$often" ]; then
+        return
     fi
+    shown="$state $names"
+    told_at=$(date +%s)
+    if [ -n "$names" ]; then
+        state="$state, now$(at_work_since)"
+    elif [ "$stage" = wide ] && ! grep -q '^== ' "$room/all"; then
+        state="$state, reading sources, of $(crates_read) crates so far"
+    fi
+    say "$state ($(passed_time))"
 }
 
 # ------------------------------------------------------------------------------------------------------ the build
@@ -230,6 +263,7 @@ prove_wide() {
 # comes to its end, shows that what was built runs.
 prove_chain() {
     stage=chain
+    : >"$room/chain"
     begin crates/house_cli chain "$here/crates/house_cli/stdin" rt run --jobs "$jobs" -- run
     while kill -0 "$maker" 2>/dev/null; do
         left=$(left_over)

@@ -10,6 +10,15 @@ quoted() {
     esac
 }
 
+# Words as they can be typed into a shell.
+all_quoted() {
+    printf '%s' "$(quoted "$1")"
+    shift
+    for word in "$@"; do
+        printf ' %s' "$(quoted "$word")"
+    done
+}
+
 # The forms of words that the program has: how many there are, and the first; names of files are not empty.
 is_form() {
     case $#:${1-} in
@@ -85,32 +94,30 @@ draw_clusters() {
         done | LC_ALL=C sort | awk -v clusters="$4" '{ print $2, 1 + (NR - 1) % clusters }'
 }
 
-# Shows the refused line of the input in the file $1, for which the program with the other words is asked once more.
-show_refused() {
+# What the program answers once more on the input in the file $1 with the other words: the number and the reason of its
+# refusal, or nothing.
+ask_again() {
+    number= reason=
     input=$1
     shift
     answer=$("$program" "$@" <"$input" 2>/dev/null)
     number=$(printf '%s\n' "$answer" | sed -n 's/^refused \([0-9]*\) [a-z-]*$/\1/p')
     reason=$(printf '%s\n' "$answer" | sed -n 's/^refused [0-9]* \([a-z-]*\)$/\1/p')
-    if [ -z "$number" ]; then
-        refused_somewhere
-        return
-    fi
-    : >"$room/drawn"
-    bytes=$(LC_ALL=C sed -n "$number{p;q;}" "$input" | head -c 2000 | od -An -v -tu1 | tr -s ' \n' '  ' \
-        | sed 's/ 10 *$//')
-    LC_ALL=C tr '\15' '\1' <"$input" | LC_ALL=C tr -c '\1\11\12\40-\176' '?' >"$room/plain"
+}
+
+# The line `number` of the lines in the file $1, as it can be shown, and its first bytes as decimal numbers.
+find_line() {
+    bytes=$(LC_ALL=C sed -n "$number{p;q;}" "$1" | head -c 2000 | od -An -v -tu1 | tr -s ' \n' '  ' | sed 's/ 10 *$//')
+    LC_ALL=C tr '\15' '\1' <"$1" | LC_ALL=C tr -c '\1\11\12\40-\176' '?' >"$room/plain"
     line=$(sed -n "$number{p;q;}" "$room/plain" | tr -d '\1' | cut -c 1-160)
-    if [ -n "$line" ]; then
-        say "line $number is refused: $line"
-    elif [ "$number" = 1 ]; then
-        say "the input is refused: it has no lines"
-    else
-        say "the input is refused at its end, behind its line $((number - 1))"
-    fi
+}
+
+# Says what the reason means, and what is wrong with that line.
+explain_line() {
     say "$reason: $(meaning "$reason")"
-    off=$(off_encoding "$input" "$bytes")
+    off=$(off_encoding "$1" "$bytes")
     if [ -z "$off" ]; then
+        : >"$room/drawn"
         if [ "$reason" = invalid ]; then
             seed=$(awk -v number="$number" '{ sub(/\001$/, "") } NR >= number { exit } $1 == "partition" { print $2 }' \
                 "$room/plain")
@@ -121,6 +128,24 @@ show_refused() {
             -f "$here/bin/parts/explain.awk" "$room/plain" | cut -c 1-300)
     fi
     [ -z "$off" ] || say "here: $off"
+}
+
+# Shows the refused line of the input in the file $1, for which the program with the other words is asked once more.
+show_refused() {
+    ask_again "$@"
+    if [ -z "$number" ]; then
+        refused_somewhere
+        return
+    fi
+    find_line "$1"
+    if [ -n "$line" ]; then
+        say "line $number is refused: $line"
+    elif [ "$number" = 1 ]; then
+        say "the input is refused: it has no lines"
+    else
+        say "the input is refused at its end, behind its line $((number - 1))"
+    fi
+    explain_line "$1"
 }
 
 refused_somewhere() {
@@ -134,44 +159,76 @@ warn_of_open_end() {
     fi
 }
 
-# Shows which of the lines of a call is refused that two files open: one of the opening, or one of the input.
+# The same of a call that two files open: the line is one of the opening, or one of the input in the file $1.
 show_refused_behind() {
-    input=$1
-    shift
-    answer=$("$program" "$@" <"$input" 2>/dev/null)
-    number=$(printf '%s\n' "$answer" | sed -n 's/^refused \([0-9]*\) [a-z-]*$/\1/p')
-    reason=$(printf '%s\n' "$answer" | sed -n 's/^refused [0-9]* \([a-z-]*\)$/\1/p')
+    ask_again "$@"
     if [ -z "$number" ]; then
         refused_somewhere
         return
     fi
     # The first line behind the opening, where a line that is no command gets that far.
+    shift
     first=$(printf 'hello\n' | "$program" "$@" 2>/dev/null | sed -n 's/^refused \([0-9]*\) form$/\1/p')
-    if [ -z "$first" ]; then
-        say "line $number is refused; it is one of the lines that the call file and the register open the call with"
-    else
-        at=$((number - first + 1))
-        line=$(LC_ALL=C sed -n "$at{p;q;}" "$input" | tr -d '\15' | LC_ALL=C tr -c '\11\12\40-\176' '?' | cut -c 1-160)
-        if [ -n "$line" ]; then
-            say "line $number is refused; it is line $at of the input, behind $((first - 1)) that open the call: $line"
-        else
-            say "the input is refused at its end, behind its line $((at - 1)) and $((first - 1)) that open the call"
-        fi
+    opening_lines "$2" "$3" >"$room/opening"
+    count=$(wc -l <"$room/opening")
+    if [ -n "$first" ] && [ "$count" != $((first - 1)) ] || [ -z "$first" ] && [ "$count" -lt "$number" ]; then
+        say "line $number is refused, counted through those with which the call file and the register open the call"
+        say "$reason: $(meaning "$reason")"
+        return
     fi
-    say "$reason: $(meaning "$reason")"
+    cat "$room/opening" "$input" >"$room/whole"
+    find_line "$room/whole"
+    if [ "$number" -le "$count" ]; then
+        record=$(record_of "$number" "$3")
+        case $line in
+            applicant*) say "line $number is refused; record $number of $(quoted "$3") gives it ($record): $line" ;;
+            *) say "line $number is refused; it is one of the $count that open the call: $line" ;;
+        esac
+    elif [ -n "$line" ]; then
+        at=$((number - count))
+        say "line $number is refused; it is line $at of the input, behind $count that open the call: $line"
+    else
+        say "the input is refused at its end, behind its line $((number - count - 1)) and $count that open the call"
+    fi
+    explain_line "$room/whole"
 }
 
-# The record of a CSV text with a number, on one line; blank lines are no records, and a quoted field may go over lines.
+# The value of the key $2 in the call file $1, where it stands on a line of its own; else nothing.
+value_of() {
+    LC_ALL=C tr -d '\15' <"$1" | LC_ALL=C sed -e "s/^[[:blank:]]*$2[[:blank:]]*=[[:blank:]]*//" -e t -e d \
+        | LC_ALL=C sed -n -e 's/^"\{0,1\}\([A-Za-z0-9-]*\)"\{0,1\}[[:blank:]]*$/\1/p' \
+            -e 's/^"\{0,1\}\([A-Za-z0-9-]*\)"\{0,1\}[[:blank:]]*#.*$/\1/p' | head -n 1
+}
+
+# The lines with which the call file $1 and the register $2 open a call, both being of their form; none where the call
+# file is written otherwise than by a key a line.
+opening_lines() {
+    for key in seats clusters reviews; do
+        [ -n "$(value_of "$1" "$key")" ] || return
+    done
+    echo "call $(value_of "$1" seats) $(value_of "$1" clusters) $(value_of "$1" reviews)"
+    plain_register "$2" | LC_ALL=C awk -v opens=1 -v seed="$(value_of "$1" partition)" -v seal="$(value_of "$1" seal)" \
+        -f "$here/bin/parts/record.awk"
+}
+
+plain_register() {
+    LC_ALL=C tr '\15' '\12' <"$1" | LC_ALL=C tr -c '\11\12\40-\176' '\1'
+}
+
+# The record of a register with a number, on one line, or with a further word what is wrong with it. The applicants' lines
+# stand behind that of the call, and the records behind the header: so both have the same numbers.
 record_of() {
-    LC_ALL=C tr -d '\15' <"$2" | LC_ALL=C awk -v wanted="$1" '
-        NR == 1 { sub(/^\357\273\277/, "") }
-        open == "" && $0 == "" { next }
-        {
-            record = open == "" ? $0 : record " / " $0
-            quotes = gsub(/"/, "\"")
-            if (quotes % 2) open = open == "" ? "open" : ""
-            if (open == "" && ++number == wanted) { print substr(record, 1, 160); exit }
-        }' | LC_ALL=C tr -c '\11\12\40-\176' '?'
+    plain_register "$2" | LC_ALL=C awk -v wanted="$1" -v why="${3:+1}" -f "$here/bin/parts/record.awk"
+}
+
+# Shows the line of the call file $1 that has the key $2 in front, or says that there is none such.
+key_line() {
+    found=$(LC_ALL=C tr -c '\11\12\40-\176' '?' <"$1" | grep "^[[:blank:]]*$2[[:blank:]]*=" | head -n 1 | cut -c 1-160)
+    if [ -n "$found" ]; then
+        printf 'is not as it has to be: %s' "$found"
+    else
+        printf 'is missing, or not as it has to be'
+    fi
 }
 
 # Which file is refused, where, and what has to stand there; the words are those of the call.
@@ -190,15 +247,18 @@ show_bad_file() {
                 partition) may="1 to 64 letters, digits and - in double quotes, or is left out" ;;
                 *) may="64 digits of 0-9 and a-f in double quotes, or is left out" ;;
             esac
-            say "in $(quoted "$2") the key $key is missing, or not as it has to be: $may"
+            say "in $(quoted "$2") the key $key $(key_line "$2" "$key")"
+            say "$key is $may"
             ;;
         'bad record 1')
-            say "the first record of $(quoted "$3") is not the header of its version: name,cluster,conflicts, or in version 2 name,person,cluster,conflicts"
+            say "the first record of $(quoted "$3") is not the header of its version: $(record_of 1 "$3")"
+            say "the header is name,cluster,conflicts, and in version 2 name,person,cluster,conflicts"
             ;;
         'bad record '*)
             number=${answer#bad record }
+            off=$(record_of "$number" "$3" why)
             say "record $number of $(quoted "$3"), the header counted, is not of its form: $(record_of "$number" "$3")"
-            say "a record has as many fields as the header: a name, in version 2 a person or nothing, a cluster or nothing (nothing beside a partition), and names with spaces between them"
+            say "here: ${off:-a record has as many fields as the header, each of the form that docs/formats.md says}"
             ;;
         *) say "the call file or the register is not of its form; bin/house help bad" ;;
     esac

@@ -124,7 +124,8 @@ help_on_text() {
     case $1 in
         refused) cat <<'TEXT'
 refused LINE REASON
-A line of the input, or its end, may not come where it stands; nothing behind it was looked at. bin/house help REASON
+A line of the input, or its end, may not come where it stands; nothing behind it was looked at. Lines are counted from 1,
+those with which a call file and a register open a call before those of the input. bin/house help REASON
 TEXT
             ;;
         short) cat <<'TEXT'

@@ -7,3 +7,4 @@ pub mod LawLemmas
 pub mod OpenedLemmas
 pub mod StrictLemmas
 pub mod WordPartLemmas
+pub mod WriteLemmas

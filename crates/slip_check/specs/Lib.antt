@@ -2,3 +2,4 @@ pub mod Strict
 pub mod Slip
 pub mod Form
 pub mod Counted
+pub mod Written

@@ -5,7 +5,7 @@ use Rattle.std.specs.Option.{option_map_or}
 use Rattle.std.specs.Str.{bytes_eq}
 use Rattle.house_base.specs.declared.limits.TheConstants.{DOLLAR}
 use Rattle.house_base.specs.declared.plan.Owner.{Owner}
-use Rattle.house_base.specs.Setting.{size, cluster_at, name_at}
+use Rattle.house_base.specs.Setting.{Setting, size, cluster_at, name_at}
 use Rattle.house_base.specs.Text.{Text}
 use Rattle.peer_selection.specs.Counting.{count_below, numbers_below}
 use Rattle.peer_selection.specs.Marks.{marks}
@@ -34,8 +34,8 @@ pub record Slip : Type 0 where
   pub ballots : List Ballot
 
 -- the places of a cluster
-unfoldable pub places_in : Profile → ℕ → List ℕ
-places_in f j = filter (λ q. cluster_at f.setting q == j) (numbers_below (size f.setting))
+unfoldable pub places_in : Setting → ℕ → List ℕ
+places_in s j = filter (λ q. cluster_at s q == j) (numbers_below (size s))
 
 -- the cell of a reviewer for the proposal at a place
 abbrev pub cell_of : Profile → ℕ → ℕ → Cell
@@ -55,8 +55,8 @@ slip_of f p = record {
   name = name_at f.setting p;
   seats = f.setting.seats;
   persons = length f.setting.owners;
-  members = map (name_at f.setting) (places_in f (cluster_at f.setting p));
-  ballots = map (ballot_of f) (filter (reviews_one_of f (places_in f (cluster_at f.setting p))) f.setting.owners);
+  members = map (name_at f.setting) (places_in f.setting (cluster_at f.setting p));
+  ballots = map (ballot_of f) (filter (reviews_one_of f (places_in f.setting (cluster_at f.setting p))) f.setting.owners);
 }
 
 -- The text of a slip, with a chance over a denominator in its first line.

@@ -1,4 +1,5 @@
-//! Slips: short texts from which anybody can check one applicant's chance. A slip is checked here (`check_slip`).
+//! Slips: short texts from which anybody can check one applicant's chance. A slip is written here (`write_slip`), and
+//! checked (`check_slip`).
 
 #![tactic(auto)]
 
@@ -10,8 +11,13 @@ pub mod laws;
 mod stop;
 mod strict;
 mod word;
+mod write;
+mod write_ballot;
 
 pub use check::{SlipFault, Verdict, check_slip};
+pub use write::{SlipWrite, write_slip};
 
 #[cfg(test)]
 mod tests;
+#[cfg(test)]
+mod write_tests;

@@ -3,8 +3,11 @@ pub mod CheckLemmas
 pub mod CountLemmas
 pub mod GiveLemmas
 pub mod HeadLemmas
+pub mod KeptLemmas
 pub mod LawLemmas
 pub mod OpenedLemmas
+pub mod OwnSlipLemmas
 pub mod StrictLemmas
 pub mod WordPartLemmas
+pub mod WorthLemmas
 pub mod WriteLemmas

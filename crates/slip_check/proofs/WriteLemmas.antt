@@ -200,7 +200,7 @@ slip_text-read f p number den seats persons person at number_is den_is seats_is 
     ∙ ap (λ j. line_of (head_row (chance f p) (denominator s) (name_at s p)) ++ (line_of (sizes_row s.seats (length s.owners)) ++ lines j)) (sym (cluster_at-read s p person at))
     ∙ sym (slip_text-written f p (chance f p) (denominator s))
 
-abbrev cell_with : Text → ℕ → Cell
+abbrev pub cell_with : Text → ℕ → Cell
 cell_with name points = record { proposal = name; points = points }
 
 -- the cell of a reviewer, from a name and points

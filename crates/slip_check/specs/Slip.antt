@@ -8,8 +8,9 @@ use Rattle.house_base.specs.declared.plan.Owner.{Owner}
 use Rattle.house_base.specs.Setting.{Setting, size, cluster_at, name_at}
 use Rattle.house_base.specs.Text.{Text}
 use Rattle.peer_selection.specs.Counting.{count_below, numbers_below}
+use Rattle.peer_selection.specs.Lottery.{chance}
 use Rattle.peer_selection.specs.Marks.{marks}
-use Rattle.peer_selection.specs.Profile.{Profile, row}
+use Rattle.peer_selection.specs.Profile.{Profile, denominator, row}
 use Rattle.peer_selection.specs.Split.{cents_at}
 use Rattle.house_model.specs.Report.{line_of, over}
 use Rattle.slip_check.specs.Strict.{Row}
@@ -84,6 +85,10 @@ slip_rows chance den s =
 
 unfoldable pub slip_text : ℕ → ℕ → Slip → Text
 slip_text chance den s = flat_map line_of (slip_rows chance den s)
+
+-- the slip of the applicant at a place as it is printed: with its chance, over the persons' dollars
+abbrev pub printed_slip : Profile → ℕ → Text
+printed_slip f p = slip_text (chance f p) (denominator f.setting) (slip_of f p)
 
 -- What a slip is worth.
 

@@ -1,9 +1,16 @@
 //! Laws of slips. Each is proved once, here, and the functions have nothing to do.
 
-ghost use Rattle.std.specs.Prelude.{◌≡◌, None, drop};
+ghost use Rattle.std.specs.Prelude.{◌≡◌, ℕ, ◌<◌, None, drop};
+ghost use Rattle.house_base.specs.Setting.{size};
 ghost use Rattle.house_base.specs.Text.{Text};
+ghost use Rattle.house_model.specs.Isolation.{GiveAssignment, IsApplicantOf, without};
+ghost use Rattle.house_model.specs.Reviews.{profile};
+ghost use Rattle.house_model.specs.Text.{Lines};
+ghost use Rattle.peer_selection.specs.Laws.{IsAssigned, IsInClusterOf, with_points};
+ghost use Rattle.peer_selection.specs.Lottery.{chance};
+ghost use Rattle.peer_selection.specs.Profile.{Profile};
 ghost use Rattle.slip_check.specs.Form.{fault_in, rows_of, slip_in};
-ghost use Rattle.slip_check.specs.Slip.{worth};
+ghost use Rattle.slip_check.specs.Slip.{printed_slip, slip_of, worth};
 ghost use Rattle.slip_check.specs.Strict.{fed_lines};
 
 /// What a slip is worth is told by its name and the lines behind its first: the chance that the first line prints has no
@@ -11,4 +18,23 @@ ghost use Rattle.slip_check.specs.Strict.{fed_lines};
 pub fn lines_behind_the_first_tell_the_worth()
     ensures { (a b : Text) → fault_in a ≡ None → fault_in b ≡ None → drop 1 (fed_lines a) ≡ drop 1 (fed_lines b)
         → (slip_in (rows_of a)).name ≡ (slip_in (rows_of b)).name → worth (slip_in (rows_of a)) ≡ worth (slip_in (rows_of b)) }
+{}
+
+/// The slip of an applicant is worth its chance: the cents of a ballot go by the order in its line, the members' scores
+/// are what the ballots give, and the draws that reach a rank are as many wherever the cluster's stretch begins.
+pub fn worth_is_the_chance()
+    ensures { (f : Profile) (p : ℕ) → IsAssigned f → p < size f.setting → worth (slip_of f p) ≡ chance f p }
+{}
+
+/// What a person writes as a reviewer is in no slip of its own cluster: with other points of a reviewer, and without the
+/// review lines of a person, the slip of each of these applicants is the same, and so is its text, chance and all.
+pub fn own_reviews_are_in_no_own_slip()
+    ensures points { (f : Profile) (reviewer p : ℕ) (points : ℕ → ℕ) → IsAssigned f → IsInClusterOf f reviewer p
+        → slip_of (with_points f reviewer points) p ≡ slip_of f p }
+    ensures points_text { (f : Profile) (reviewer p : ℕ) (points : ℕ → ℕ) → IsAssigned f → IsInClusterOf f reviewer p
+        → printed_slip (with_points f reviewer points) p ≡ printed_slip f p }
+    ensures lines { (name : Text) (lines : Lines) (p : ℕ) → GiveAssignment lines → IsApplicantOf name lines p
+        → slip_of (profile (without name lines)) p ≡ slip_of (profile lines) p }
+    ensures lines_text { (name : Text) (lines : Lines) (p : ℕ) → GiveAssignment lines → IsApplicantOf name lines p
+        → printed_slip (profile (without name lines)) p ≡ printed_slip (profile lines) p }
 {}

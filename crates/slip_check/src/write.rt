@@ -6,7 +6,7 @@ ghost use Rattle.house_model.specs.Report.{line_of};
 ghost use Rattle.peer_selection.specs.Lottery.{chance};
 ghost use Rattle.peer_selection.specs.Profile.{denominator};
 ghost use Rattle.review_desk.specs.Desk.{IsSetUp, desk_profile};
-ghost use Rattle.slip_check.specs.Slip.{head_row, member_row, sizes_row, slip_of, slip_text};
+ghost use Rattle.slip_check.specs.Slip.{head_row, member_row, printed_slip, sizes_row};
 ghost use Rattle.slip_check.specs.Written.{member_lines};
 
 use crate::write_ballot::push_ballots;
@@ -42,8 +42,7 @@ pub fn write_slip(
     requires set_up { IsSetUp plan.now desk.now }
     requires seats { seats ≡ plan.now.seats }
     ensures listed { OnOk result ((place : ℕ) × (slice_get (names_of plan.now) place ≡ Some name)
-        × (out.new.items ≡ out.old.items ++ (let f = desk_profile plan.now desk.now in
-        slip_text (chance f place) (denominator plan.now) (slip_of f place)))) }
+        × (out.new.items ≡ out.old.items ++ printed_slip (desk_profile plan.now desk.now) place)) }
     ensures unlisted { (result ≡ Err SlipWrite.Unlisted) ↔ (Contains (names_of plan.now) name → ⊥) }
     ensures err { OnErr result (out.new.items ≡ out.old.items) }
 {
@@ -71,8 +70,7 @@ fn slip_text(
     requires set_up { IsSetUp plan.now desk.now }
     requires seats { seats ≡ plan.now.seats }
     requires place { place < size plan.now }
-    ensures { IfOk result (λ text. let f = desk_profile plan.now desk.now in
-        text.items ≡ slip_text (chance f place) (denominator plan.now) (slip_of f place)) }
+    ensures { IfOk result (λ text. text.items ≡ printed_slip (desk_profile plan.now desk.now) place) }
 {
     let chance = chance_at(alloc, plan, desk, seats, place)?;
     let person = plan.person(place);

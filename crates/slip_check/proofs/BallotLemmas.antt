@@ -66,7 +66,7 @@ cells_parts ws h =
     let b = and_parts (leb (length ws) (MOST_REVIEWS * MOST_OWN)) (list_all is_cell ws) a.0 in
     (leb-true _ _ b.0, b.1, a.1)
 
-cells_from : (ws : Row) → length ws ≤ MOST_REVIEWS * MOST_OWN → list_all is_cell ws ≡ true → all_differ (map before_colon ws) ≡ true → are_cells ws ≡ true
+pub cells_from : (ws : Row) → length ws ≤ MOST_REVIEWS * MOST_OWN → list_all is_cell ws ≡ true → all_differ (map before_colon ws) ≡ true → are_cells ws ≡ true
 unfolding are_cells
 cells_from ws l a d = rw (le-leb _ _ l, a, d) refl
 
@@ -190,7 +190,7 @@ cell_off rest left more w ps pts i found off ws e =
 
 -- A ballot's line.
 
-ballot_is : (w : Text) (ws : Row) → is_ballot (codes "ballot" ∷ w ∷ ws) ≡ ((is_name w && not (is_empty ws)) && are_cells ws)
+pub ballot_is : (w : Text) (ws : Row) → is_ballot (codes "ballot" ∷ w ∷ ws) ≡ ((is_name w && not (is_empty ws)) && are_cells ws)
 unfolding is_ballot
 ballot_is w ws = refl
 
@@ -236,7 +236,7 @@ ballot_of_no_cells w rest more row found off e =
     let parts = row_behind w rest more row found e in
     ap (λ r. is_ballot (codes "ballot" ∷ r)) parts.2 ∙ ballot_is w parts.0 ∙ three_no3 (is_name w) (not (is_empty parts.0)) (are_cells parts.0) (off parts.0 parts.1)
 
-some_row : (ws : Row) → 0 < length ws → not (is_empty ws) ≡ true
+pub some_row : (ws : Row) → 0 < length ws → not (is_empty ws) ≡ true
 some_row [] h = absurd (omega arith)
 some_row (w ∷ ws) h = refl
 

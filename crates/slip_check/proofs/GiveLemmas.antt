@@ -114,11 +114,15 @@ within_most : (most : ℕ) (w : Text) (o : Option ℕ) → most < 2 ^ 64 → num
 within_most most w None fits is h = cc
 within_most most w (Some n) fits is h = omega (arith, number_is most n w fits is, number_at_most most n w is)
 
+-- a word of a number up to so much
+pub number-within : (most : ℕ) (w : Text) → most < 2 ^ 64 → is_within 0 most w ≡ true → number w ≤ most
+unfolding is_within
+number-within most w fits h = within_most most w (number_up_to most w) fits refl h
+
 cell_points_most : (w : Text) → is_cell w ≡ true → points_in w ≤ MOST_POINTS
-unfolding is_cell is_within
+unfolding is_cell
 cell_points_most w h =
-    let within = (and_parts (is_name (before_colon w)) (is_within 0 MOST_POINTS (behind_colon w)) h).1 in
-    within_most MOST_POINTS (behind_colon w) (number_up_to MOST_POINTS (behind_colon w)) (omega arith) refl within
+    number-within MOST_POINTS (behind_colon w) (omega arith) (and_parts (is_name (before_colon w)) (is_within 0 MOST_POINTS (behind_colon w)) h).1
 
 pub points_most : (ws : Row) (ps : List Text) (pts : List ℕ) → AreCells ws ps pts → All (λ x. x ≤ MOST_POINTS) pts
 points_most ws ps pts r =

@@ -1,6 +1,6 @@
 -- Numbers below a bound that pass a test, in their order.
-use Rattle.std.proofs.Common.{◌≡◌, ℕ, zero, suc, ◌+◌, ◌<◌, ◌&&◌, Bool, true, false, cond, eqb, ltb, List, [], ◌∷◌, ◌++◌, length, filter, get_or, Some, None, refl, sym, ap, ◌∙◌, subst, append-nil, arith, inl, inr}
-use Rattle.std.specs.List.{AllByRecursion, position_from, sum_by}
+use Rattle.std.proofs.Common.{◌≡◌, ℕ, zero, suc, ◌+◌, ◌<◌, ◌&&◌, ◌||◌, Bool, true, false, cond, eqb, ltb, List, [], ◌∷◌, ◌++◌, length, filter, get_or, Some, None, refl, sym, ap, ◌∙◌, subst, append-nil, arith, inl, inr}
+use Rattle.std.specs.List.{AllByRecursion, list_any, position_from, sum_by}
 use Rattle.std.proofs.lemmas.Bool.{cases_Bool, cases_lt, cond-true, cond-false, eq-eqb, le-ltb, lt-ltb, ne_eqb}
 use Rattle.std.proofs.lemmas.List.{get_or_append_left, get_or_push}
 use Rattle.std.proofs.lemmas.List.Elements.{filter-append}
@@ -98,6 +98,14 @@ all_kept P m (suc n) h = elim (cases_Bool (m n)) [
   | inl here ↦ subst (AllByRecursion P) (sym (kept_takes m n here)) (all_push P (kept m n) n (all_kept P m n (λ q l. h q (omega arith))) (h n (omega arith) here))
   | inr other ↦ subst (AllByRecursion P) (sym (kept_skips m n other)) (all_kept P m n (λ q l. h q (omega arith)))
 ]
+
+none_of : (test : ℕ → Bool) (xs : List ℕ) → AllByRecursion (λ x. test x ≡ false) xs → list_any test xs ≡ false
+none_of test [] all = refl
+none_of test (x ∷ xs) all = ap (λ b. b || list_any test xs) all.0 ∙ none_of test xs all.1
+
+-- where none of them passes another test
+pub none_kept : (m test : ℕ → Bool) (n : ℕ) → ((q : ℕ) → q < n → m q ≡ true → test q ≡ false) → list_any test (kept m n) ≡ false
+none_kept m test n h = none_of test (kept m n) (all_kept (λ q. test q ≡ false) m n h)
 
 -- Where one of them is found.
 

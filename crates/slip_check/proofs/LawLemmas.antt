@@ -1,14 +1,25 @@
--- What the lines behind the first tell.
-use Rattle.std.proofs.Common.{◌≡◌, ℕ, ◌∙◌, cond, List, [], ◌∷◌, map, filter, drop, get_or, refl, sym, ap, None}
+-- What the lines behind the first tell, and what the slip of an applicant says.
+use Rattle.std.proofs.Common.{◌≡◌, ℕ, ◌*◌, ◌^◌, ◌<◌, ◌∙◌, cond, List, [], ◌∷◌, length, map, filter, drop, get_or, refl, sym, ap, arith, None}
 use Rattle.std.specs.Prelude.{codes}
 use Rattle.std.proofs.lemmas.Bool.{cases_Bool}
 use Rattle.std.proofs.Common.{inl, inr}
+use Rattle.house_base.specs.Setting.{name_at, size}
 use Rattle.house_base.specs.Text.{Text}
+use Rattle.house_base.specs.declared.limits.TheConstants.{DOLLAR}
+use Rattle.house_base.proofs.Settings.{length-StandInTurn}
 use Rattle.house_model.specs.Said.{number}
+use Rattle.peer_selection.specs.Laws.{IsAssigned}
+use Rattle.peer_selection.specs.Lottery.{chance, selected}
+use Rattle.peer_selection.specs.Profile.{Profile, denominator}
+use Rattle.peer_selection.proofs.CountingLemmas.{count_below-le}
 use Rattle.slip_check.specs.Form.{Rows, ballot_in, ballots_in, begins, fault_from, fault_in, is_on_form, members_in, rows_of, slip_in, word_at}
-use Rattle.slip_check.specs.Slip.{Ballot, Slip, worth}
+use Rattle.slip_check.specs.Limits.{GivesSlips, IsRight, Says}
+use Rattle.slip_check.specs.Slip.{Ballot, Slip, printed_slip, slip_of, worth}
 use Rattle.slip_check.specs.Strict.{Row, fed_lines, row_of}
+use Rattle.slip_check.proofs.LimitLemmas.{slip-within}
 use Rattle.slip_check.proofs.OpenedLemmas.{first_begins, starts, step_off}
+use Rattle.slip_check.proofs.ReadBackLemmas.{read-back}
+use Rattle.slip_check.proofs.WorthLemmas.{worth-chance}
 
 -- the first line of a text of the form, and those behind it
 record HasFirst (lines : List Text) : Type 0 where
@@ -79,3 +90,29 @@ pub one_worth : (a b : Text) → fault_in a ≡ None → fault_in b ≡ None →
 one_worth a b h k lines name =
     ap worth
     (slip_told a h ∙ ap (λ n. behind n (map row_of (drop 1 (fed_lines a)))) name ∙ ap (λ l. behind (slip_in (rows_of b)).name (map row_of l)) lines ∙ sym (slip_told b k))
+
+-- The slip of an applicant.
+
+chance-fits : (f : Profile) (p : ℕ) → IsAssigned f → chance f p < 2 ^ 64
+unfolding chance denominator
+chance-fits f p h =
+    let persons = length-StandInTurn 0 f.setting.owners (size f.setting) h.setting.own h.setting.in_turn in
+    omega (arith, count_below-le (selected f p) (length f.setting.owners * DOLLAR), persons, h.setting.few)
+
+pub says-own : (f : Profile) (p : ℕ) → GivesSlips f → p < size f.setting → Says (printed_slip f p) (slip_of f p) (chance f p)
+unfolding denominator slip_of
+says-own f p h l = read-back (slip_of f p) (chance f p) (slip-within f h p l) (chance-fits f p h.assigned)
+
+pub right-own : (f : Profile) (p : ℕ) → GivesSlips f → p < size f.setting → IsRight (printed_slip f p)
+right-own f p h l =
+    let says = says-own f p h l in
+    record { formed = says.formed; worth = says.chance ∙ sym (ap worth says.slip ∙ worth-chance f p h.assigned l) }
+
+-- a text that names an applicant and has the lines of its slip behind the first
+pub worth-told : (f : Profile) (p : ℕ) (bytes : Text) → GivesSlips f → p < size f.setting → fault_in bytes ≡ None → (slip_in (rows_of bytes)).name ≡ name_at f.setting p
+    → drop 1 (fed_lines bytes) ≡ drop 1 (fed_lines (printed_slip f p)) → worth (slip_in (rows_of bytes)) ≡ chance f p
+unfolding slip_of
+worth-told f p bytes h l formed name lines =
+    let says = says-own f p h l in
+    one_worth bytes (printed_slip f p) formed says.formed lines (name ∙ sym (ap (λ (s : Slip). s.name) says.slip))
+    ∙ ap worth says.slip ∙ worth-chance f p h.assigned l

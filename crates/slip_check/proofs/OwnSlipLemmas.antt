@@ -1,6 +1,6 @@
 -- A person's own reviews have no part in the slips of its cluster.
-use Rattle.std.proofs.Common.{◌≡◌, ◌≢◌, ℕ, suc, ◌||◌, Bool, true, false, cond, eqb, List, [], ◌∷◌, map, filter, refl, sym, ap, ◌∙◌, subst, arith, inl, inr}
-use Rattle.std.specs.List.{AllByRecursion, Contains, list_any}
+use Rattle.std.proofs.Common.{◌≡◌, ◌≢◌, ℕ, suc, Bool, true, false, cond, eqb, List, [], ◌∷◌, map, filter, refl, sym, ap, ◌∙◌, subst, arith, inl, inr}
+use Rattle.std.specs.List.{AllByRecursion, Contains}
 use Rattle.std.proofs.lemmas.Bool.{both_ways, cases_Bool, cond-true, cond-false, eqb-true, ne_eqb}
 use Rattle.std.proofs.lemmas.List.Elements.{All-contains}
 use Rattle.house_base.specs.declared.plan.Owner.{Owner}
@@ -21,8 +21,9 @@ use Rattle.peer_selection.specs.Lottery.{chance}
 use Rattle.peer_selection.specs.Profile.{Pairs, Points, Profile, denominator, profile_on, row}
 use Rattle.peer_selection.proofs.ImpartialLemmas.{chance-same, not_reviewed}
 use Rattle.slip_check.specs.Slip.{Ballot, Cell, Slip, ballot_of, cell_of, places_in, printed_slip, reviews_one_of, slip_of, slip_text}
-use Rattle.slip_check.proofs.KeptLemmas.{all_kept, kept}
-use Rattle.slip_check.proofs.WriteLemmas.{cell_with, first_below}
+use Rattle.slip_check.proofs.KeptLemmas.{none_kept}
+use Rattle.slip_check.proofs.PlaceLemmas.{first_below}
+use Rattle.slip_check.proofs.WriteLemmas.{cell_with}
 
 -- Profiles whose points agree on the ballots have one slip.
 
@@ -67,10 +68,6 @@ slip-same s pairs a b p h =
 
 -- Who reviews nobody of a cluster.
 
-none_of : (test : ℕ → Bool) (xs : List ℕ) → AllByRecursion (λ x. test x ≡ false) xs → list_any test xs ≡ false
-none_of test [] all = refl
-none_of test (x ∷ xs) all = ap (λ b. b || list_any test xs) all.0 ∙ none_of test xs all.1
-
 -- a person has no ballot in the slips of its cluster
 no_ballot : (f : Profile) (owner : Owner) (p : ℕ) → IsAssigned f → Contains f.setting.owners owner → cluster_at f.setting p ≡ cluster_at f.setting owner.first
     → reviews_one_of f (places_in f.setting (cluster_at f.setting p)) owner ≡ false
@@ -78,8 +75,8 @@ unfolding reviews_one_of places_in
 no_ballot f owner p h has same =
     let s = f.setting in
     let member = λ (q : ℕ). eqb (cluster_at s q) (cluster_at s p) in
-    none_of (f.pairs owner.first) (kept member (size s)) (all_kept (λ q. f.pairs owner.first q ≡ false) member (size s)
-    (λ q below is. not_reviewed f owner.first q h (first_below s owner h.setting has) below (eqb-true (cluster_at s q) (cluster_at s p) is ∙ same)))
+    none_kept member (f.pairs owner.first) (size s)
+    (λ q below is. not_reviewed f owner.first q h (first_below s owner h.setting has) below (eqb-true (cluster_at s q) (cluster_at s p) is ∙ same))
 
 -- with other points of one reviewer
 pub slip-other_points : (f : Profile) (reviewer p : ℕ) (points : ℕ → ℕ) → IsAssigned f → IsInClusterOf f reviewer p → slip_of (with_points f reviewer points) p ≡ slip_of f p

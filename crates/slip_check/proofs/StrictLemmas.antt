@@ -9,7 +9,7 @@ use Rattle.std.proofs.lemmas.Bool.{and_parts, cases_Bool, cases_lt, eqb-true, lt
 use Rattle.std.proofs.lemmas.List.{append_cancel_left, append_cancel_right, take-append-drop, take_all, length-take-le}
 use Rattle.std.proofs.lemmas.List.Elements.{All-from_get_or}
 use Rattle.std.proofs.lemmas.List.Quantifiers.{position-Some}
-use Rattle.std.proofs.lemmas.List.Splits.{slice_split-cons_no, slice_split-cons_yes, slice_split_first, slice_split_none, length-slice_split}
+use Rattle.std.proofs.lemmas.List.Splits.{slice_split-cons_no, slice_split-cons_yes, slice_split_at, slice_split_first, slice_split_none, length-slice_split}
 use Rattle.std.proofs.lemmas.List.Sums.{fails_before_first, position_or_len_is}
 use Rattle.std.proofs.Math.Dec.{eqb-suc-zero}
 use Rattle.std.proofs.Math.Seq.{take-append_seam, drop-append_seam, drop-length}
@@ -47,6 +47,12 @@ unfolding fed_lines
 fed_lines_to_feed xs h =
     ap with_feeds (slice_split_first is_feed xs 0 h)
     ∙ front_stays (before_first is_feed xs) (slice_split is_feed (after_first is_feed xs)) (some_parts (after_first is_feed xs))
+
+-- a line and the line feed that ends it
+pub fed_lines_at_feed : (front more : Text) → HasNoFeed front → fed_lines (front ++ 10 ∷ more) ≡ (front ++ 10 ∷ []) ∷ fed_lines more
+unfolding fed_lines
+fed_lines_at_feed front more none =
+    ap with_feeds (slice_split_at is_feed front 10 more none refl) ∙ front_stays front (slice_split is_feed more) (some_parts more)
 
 -- the first place at which a test passes
 pub position_found : (test : ℕ → Bool) (xs : Text) (at : ℕ) → position test xs ≡ Some at → (position_or_len test xs ≡ at) × (at < length xs)

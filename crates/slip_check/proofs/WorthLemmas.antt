@@ -3,18 +3,16 @@ use Rattle.std.proofs.Common.{◌≡◌, ◌≢◌, ℕ, zero, suc, ◌+◌, ◌
 use Rattle.std.specs.Prelude.{position, slice_index, sum}
 use Rattle.std.specs.List.{AllByRecursion, Contains, find, list_any, position_from, sum_by}
 use Rattle.std.specs.Option.{option_map_or}
-use Rattle.std.proofs.lemmas.Bool.{both_ways, cases_Bool, cases_eq, cases_lt, cond-true, cond-false, eq-eqb, eqb-true, ne_eqb}
+use Rattle.std.proofs.lemmas.Bool.{both_ways, cases_Bool, cases_eq, cond-true, cond-false, eq-eqb, eqb-true, ne_eqb}
 use Rattle.std.proofs.lemmas.Iterator.Adapters.{position_from-zero}
 use Rattle.std.proofs.lemmas.List.{get_or-map, get_or_default, length-map}
 use Rattle.std.proofs.lemmas.List.Elements.{All-filter, All-from_recursion, recursion_from_All}
 use Rattle.std.proofs.lemmas.List.Sums.{sum_by-cons}
-use Rattle.std.proofs.lemmas.Option.{get_or_from_slice_get}
 use Rattle.house_base.specs.declared.limits.TheConstants.{MOST_OWN}
 use Rattle.house_base.specs.declared.plan.Owner.{Owner}
-use Rattle.house_base.specs.Setting.{Setting, IsSetting, StandInTurn, size, cluster_at, name_at, names_of, owner_from}
+use Rattle.house_base.specs.Setting.{Setting, IsSetting, StandInTurn, size, cluster_at, name_at, owner_from}
 use Rattle.house_base.proofs.AmongLemmas.{bytes_eq-same, bytes_eq-other}
 use Rattle.house_base.proofs.Settings.{first-StandInTurn, need-none, StandInTurn-le}
-use Rattle.house_model.proofs.ReviewerLemmas.{name_at-slice_get}
 use Rattle.peer_selection.specs.Counting.{count_below, numbers_below, sum_below}
 use Rattle.peer_selection.specs.Laws.{IsAssigned}
 use Rattle.peer_selection.specs.Lottery.{chance}
@@ -29,7 +27,8 @@ use Rattle.peer_selection.proofs.RowLemmas.{row-below}
 use Rattle.peer_selection.proofs.ValidLemmas.{is_valid-each}
 use Rattle.slip_check.specs.Slip.{ballot_cents, ballot_of, cell_of, goes_before, places_in, rank_among, reviews_one_of, score_on, scores, slip_of, worth}
 use Rattle.slip_check.proofs.KeptLemmas.{all_kept, count_kept, earlier, found_kept, kept, kept_at, length_kept, order_kept, sum_kept}
-use Rattle.slip_check.proofs.WriteLemmas.{first_below, one_passes}
+use Rattle.slip_check.proofs.PlaceLemmas.{first_below, one_place}
+use Rattle.slip_check.proofs.WriteLemmas.{one_passes}
 
 -- Lists.
 
@@ -58,20 +57,6 @@ sum_passing g test (x ∷ xs) h = elim (cases_Bool (test x)) [
 ]
 
 -- Names.
-
-one_place : (s : Setting) (p q : ℕ) → IsSetting s → p < size s → q < size s → name_at s p ≡ name_at s q → p ≡ q
-one_place s p q h pl ql e =
-    let names = names_of s in
-    let first = get_or_from_slice_get names p (name_at s p) [] (name_at-slice_get s p pl) in
-    let second = get_or_from_slice_get names q (name_at s q) [] (name_at-slice_get s q ql) in
-    let many : length names ≡ size s = length-map s.people (λ person. person.name) in
-    elim (cases_lt p q) [
-      | inl l ↦ absurd (h.names_differ p q [] l (omega arith) (first ∙ e ∙ sym second))
-      | inr m ↦ elim (cases_lt q p) [
-        | inl l ↦ absurd (h.names_differ q p [] l (omega arith) (second ∙ sym e ∙ sym first))
-        | inr l ↦ omega arith
-      ]
-    ]
 
 name_test : (s : Setting) (p q : ℕ) → IsSetting s → p < size s → q < size s → bytes_eq (name_at s q) (name_at s p) ≡ eqb p q
 name_test s p q h pl ql = elim (cases_eq p q) [

@@ -1,19 +1,19 @@
 -- The text of a slip, line by line and cell by cell.
 use Rattle.std.proofs.Common.{◌≡◌, ℕ, ◌+◌, ◌-◌, ◌*◌, ◌%◌, ◌<◌, ◌≤◌, ◌||◌, zero, suc, Bool, true, false, eqb, leb, List, [], ◌∷◌, ◌++◌, length, map, filter, flat_map, take, Some, slice_get, refl, sym, ap, ◌∙◌, append_assoc, append-nil, arith, inl, inr}
 use Rattle.std.specs.Prelude.{codes, decimal, slice_index}
-use Rattle.std.specs.List.{Contains, join_with_byte, list_any}
+use Rattle.std.specs.List.{join_with_byte, list_any}
 use Rattle.std.specs.Option.{option_map_or}
 use Rattle.std.proofs.lemmas.Bool.{cases_Bool, cases_lt, cond-true, cond-false}
 use Rattle.std.proofs.lemmas.Grind.{flat_map-append}
 use Rattle.std.proofs.lemmas.List.{map-append, take_more}
-use Rattle.std.proofs.lemmas.List.Elements.{All-contains, filter-append}
-use Rattle.std.proofs.lemmas.Option.{slice_get-get_or, slice_get_within, get_or_from_slice_get}
+use Rattle.std.proofs.lemmas.List.Elements.{filter-append}
+use Rattle.std.proofs.lemmas.Option.{slice_get_within, get_or_from_slice_get}
 use Rattle.std.proofs.Math.Nat.{mul-le-mul}
-use Rattle.house_base.specs.declared.limits.TheConstants.{DOLLAR, MOST_APPLICANTS, MOST_OWN, MOST_SEATS}
+use Rattle.house_base.specs.declared.limits.TheConstants.{DOLLAR, MOST_APPLICANTS, MOST_SEATS}
 use Rattle.house_base.specs.declared.plan.Owner.{Owner}
 use Rattle.house_base.specs.declared.plan.Person.{Person}
 use Rattle.house_base.specs.Setting.{Setting, IsSetting, size, cluster_at, name_at}
-use Rattle.house_base.proofs.Settings.{cluster_at-read, end-StandInTurn, length-StandInTurn}
+use Rattle.house_base.proofs.Settings.{cluster_at-read, length-StandInTurn}
 use Rattle.house_base.specs.Text.{Text}
 use Rattle.house_model.specs.Report.{line_of}
 use Rattle.peer_selection.specs.Counting.{count_below, numbers_below}
@@ -214,18 +214,6 @@ unfolding cell_text
 cell_written name digits proposal points name_is digits_are = ap (λ w. 32 ∷ (w ++ 58 ∷ digits)) name_is ∙ ap (λ t. 32 ∷ (proposal ++ 58 ∷ t)) digits_are
 
 -- Persons.
-
--- what stands at an index is contained
-pub contains_at : {X : Type 0} (xs : List X) (i : ℕ) (x : X) → slice_get xs i ≡ Some x → Contains xs x
-contains_at xs i x at = (i, slice_get_within xs i x at, get_or_from_slice_get xs i x x at)
-
--- the first place of a person is a place
-pub first_below : (s : Setting) (owner : Owner) → IsSetting s → Contains s.owners owner → owner.first < size s
-first_below s owner setting (k, within, is) =
-    let at = slice_get-get_or s.owners k owner within ∙ ap Some is in
-    let ends = end-StandInTurn 0 s.owners (size s) k owner setting.in_turn at in
-    let own = All-contains (λ o. (1 ≤ o.own) × (o.own ≤ MOST_OWN)) s.owners owner setting.own (k, within, is) in
-    omega (arith, ends.1, own.0)
 
 -- one person more
 pub take_next : {X : Type 0} (xs : List X) (i : ℕ) (x : X) → slice_get xs i ≡ Some x → take (i + 1) xs ≡ take i xs ++ x ∷ []

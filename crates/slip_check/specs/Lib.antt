@@ -3,3 +3,4 @@ pub mod Slip
 pub mod Form
 pub mod Counted
 pub mod Written
+pub mod Limits

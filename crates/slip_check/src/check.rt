@@ -1,9 +1,10 @@
 //! The check of a slip.
 
-ghost use Rattle.std.specs.Prelude.{◌≡◌, ◌≢◌, ◌+◌, ◌<◌, ◌^◌, ℕ, Ok, Err, None, Some, false, ◌++◌, length, IfOk};
+ghost use Rattle.std.specs.Prelude.{◌≡◌, ◌≢◌, ◌⊎◌, ◌+◌, ◌<◌, ◌^◌, ℕ, Ok, Err, None, Some, false, ◌++◌, length, IfOk};
 ghost use Rattle.house_model.specs.Text.{is_empty};
 ghost use Rattle.slip_check.specs.Counted.{IsCount, IsStart};
 ghost use Rattle.slip_check.specs.Form.{Rows, chance_in, fault_from, fault_in, members_in, rows_of, slip_in};
+ghost use Rattle.slip_check.specs.Limits.{IsRight};
 ghost use Rattle.slip_check.specs.Slip.{worth};
 ghost use Rattle.slip_check.specs.Strict.{fed_lines};
 
@@ -38,6 +39,20 @@ pub fn check_slip(alloc: Global, bytes: &[u8]) -> Result<Verdict, SlipFault>
     ensures yes { result ≡ Ok Verdict.Yes → chance_in (rows_of bytes.now) ≡ worth (slip_in (rows_of bytes.now)) }
     ensures no { (w : ℕ) → result ≡ Ok (Verdict.No w) → (w ≡ worth (slip_in (rows_of bytes.now)))
         × (chance_in (rows_of bytes.now) ≢ w) }
+    ensures right { IsRight bytes.now → (result ≡ Ok Verdict.Yes) ⊎ (result ≡ Err SlipFault.Memory) }
+{
+    match printed_and_right(alloc, bytes) {
+        Ok((printed, right)) => Ok(verdict_on(printed, right)),
+        Err(fault) => Err(fault),
+    }
+}
+
+/// The chance that a slip prints, and what its lines are worth.
+fn printed_and_right(alloc: Global, bytes: &[u8]) -> Result<(u64, u64), SlipFault>
+    ensures bad { (n : ℕ) → result ≡ Err (SlipFault.BadSlip n) → fault_in bytes.now ≡ Some n }
+    ensures formed { IfOk result (λ told. fault_in bytes.now ≡ None) }
+    ensures printed { IfOk result (λ told. told.0 ≡ chance_in (rows_of bytes.now)) }
+    ensures worth { IfOk result (λ told. told.1 ≡ worth (slip_in (rows_of bytes.now))) }
 {
     let Some((line, rest)) = first_fed_line(bytes) else {
         return Err(SlipFault::BadSlip(1));
@@ -55,10 +70,8 @@ pub fn check_slip(alloc: Global, bytes: &[u8]) -> Result<Verdict, SlipFault>
         Ok(count) => count,
         Err(fault) => return Err(fault),
     };
-    Ok(verdict_on(
-        head.share.chance,
-        count.worth(&head.name, sizes.seats, sizes.persons),
-    ))
+    let right = count.worth(&head.name, sizes.seats, sizes.persons);
+    Ok((head.share.chance, right))
 }
 
 /// The verdict on a printed chance and the right one.

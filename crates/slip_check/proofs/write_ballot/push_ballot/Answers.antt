@@ -2,7 +2,8 @@ use Rattle.std.proofs.Common.{[], ◌∷◌, ◌++◌, ap, sym, ◌∙◌}
 use Rattle.std.specs.Prelude.{codes}
 use Rattle.review_desk.specs.Desk.{desk_profile}
 use Rattle.slip_check.specs.Written.{spaced_cells}
-use Rattle.slip_check.proofs.WriteLemmas.{ballot_line-written, first_below, in_front}
+use Rattle.slip_check.proofs.PlaceLemmas.{first_below}
+use Rattle.slip_check.proofs.WriteLemmas.{ballot_line-written, in_front}
 use Rattle.slip_check.proofs.write_ballot.push_ballot.Goals as goal
 
 pub push_cells-requires-clause-reviewer : goal.push_cells-requires-clause-reviewer

@@ -3,7 +3,8 @@ use Rattle.std.proofs.lemmas.List.{take_all}
 use Rattle.review_desk.specs.Desk.{desk_profile}
 use Rattle.slip_check.specs.Slip.{places_in, reviews_one_of}
 use Rattle.slip_check.specs.Written.{ballot_line}
-use Rattle.slip_check.proofs.WriteLemmas.{ballot_lines-all, contains_at, first_below, line_skipped, line_taken, lines_of, take_next}
+use Rattle.slip_check.proofs.PlaceLemmas.{contains_at, first_below}
+use Rattle.slip_check.proofs.WriteLemmas.{ballot_lines-all, line_skipped, line_taken, lines_of, take_next}
 use Rattle.slip_check.proofs.write_ballot.push_ballots.Goals as goal
 use Rattle.slip_check.proofs.write_ballot.push_ballots.Goals.{then-reviews_one_of+in_ok-push_ballot, else-reviews_one_of}
 

@@ -1,7 +1,7 @@
 use Rattle.std.proofs.Common.{◌∙◌, refl, sym, []}
 use Rattle.slip_check.specs.Strict.{row_of}
 use Rattle.slip_check.proofs.OpenedLemmas.{IsOpened, chance_is, den_is, fault_at_first, fault_at_second, fault_of_nothing, fault_without_second, opened, worth_at}
-use Rattle.slip_check.proofs.check.check_slip.Goals as goal
+use Rattle.slip_check.proofs.check.printed_and_right.Goals as goal
 
 pub returns-in_default-clause-bad : goal.returns-in_default-clause-bad
 returns-in_default-clause-bad c =
@@ -26,8 +26,8 @@ returns-in-Err-clause-bad c =
     opened c.args.bytes.now c.in-Some.line.now c.in-Some.rest.now c.in-Some-first_fed_line.line.now c.in-Some-first_fed_line.rest.now c.in-Some.ensures.found c.in-Some-first_fed_line.ensures.found (c.in-Some-read_head.ensures.form [] refl) (c.in-Some-read_sizes.ensures.form _ refl (den_is (row_of c.in-Some.line.now) c.in-Some-read_head.head.share.den c.in-Some-read_head.ensures.den)) in
     λ n e. o.fault ∙ c.in-Err.ensures.bad _ o.start n (cc)
 
-pub worth-requires-clause-counted : goal.worth-requires-clause-counted
-worth-requires-clause-counted c =
+pub worth-right-requires-clause-counted : goal.worth-right-requires-clause-counted
+worth-right-requires-clause-counted c =
     let o : IsOpened c.args.bytes.now c.in-Some-first_fed_line.rest.now (row_of c.in-Some.line.now) (row_of c.in-Some-first_fed_line.line.now) =
     opened c.args.bytes.now c.in-Some.line.now c.in-Some.rest.now c.in-Some-first_fed_line.line.now c.in-Some-first_fed_line.rest.now c.in-Some.ensures.found c.in-Some-first_fed_line.ensures.found (c.in-Some-read_head.ensures.form [] refl) (c.in-Some-read_sizes.ensures.form _ refl (den_is (row_of c.in-Some.line.now) c.in-Some-read_head.head.share.den c.in-Some-read_head.ensures.den)) in
     (_, c.in-Ok.ensures.counted _ o.start)
@@ -38,24 +38,16 @@ returns-clause-formed c =
     opened c.args.bytes.now c.in-Some.line.now c.in-Some.rest.now c.in-Some-first_fed_line.line.now c.in-Some-first_fed_line.rest.now c.in-Some.ensures.found c.in-Some-first_fed_line.ensures.found (c.in-Some-read_head.ensures.form [] refl) (c.in-Some-read_sizes.ensures.form _ refl (den_is (row_of c.in-Some.line.now) c.in-Some-read_head.head.share.den c.in-Some-read_head.ensures.den)) in
     o.fault ∙ c.in-Ok.ensures.formed _ o.start
 
-pub returns-clause-yes : goal.returns-clause-yes
-returns-clause-yes c =
+pub returns-clause-printed : goal.returns-clause-printed
+returns-clause-printed c =
     let o : IsOpened c.args.bytes.now c.in-Some-first_fed_line.rest.now (row_of c.in-Some.line.now) (row_of c.in-Some-first_fed_line.line.now) =
     opened c.args.bytes.now c.in-Some.line.now c.in-Some.rest.now c.in-Some-first_fed_line.line.now c.in-Some-first_fed_line.rest.now c.in-Some.ensures.found c.in-Some-first_fed_line.ensures.found (c.in-Some-read_head.ensures.form [] refl) (c.in-Some-read_sizes.ensures.form _ refl (den_is (row_of c.in-Some.line.now) c.in-Some-read_head.head.share.den c.in-Some-read_head.ensures.den)) in
-    λ e.
-    chance_is c.args.bytes.now c.in-Some-first_fed_line.rest.now (row_of c.in-Some.line.now) (row_of c.in-Some-first_fed_line.line.now) c.in-Some-read_head.head.share.chance o c.in-Some-read_head.ensures.chance
-    ∙ c.verdict_on.ensures.yes (cc)
-    ∙ worth_at c.args.bytes.now c.in-Some-first_fed_line.rest.now c.in-Some-read_head.head.name (row_of c.in-Some.line.now) (row_of c.in-Some-first_fed_line.line.now)
-    c.in-Some-read_sizes.sizes.seats c.in-Some-read_sizes.sizes.persons c.worth.result c.in-Ok.count o c.worth.ensures (c.in-Ok.ensures.counted _ o.start)
-    c.in-Some-read_head.ensures.name c.in-Some-read_sizes.ensures.seats c.in-Some-read_sizes.ensures.persons
+    sym (chance_is c.args.bytes.now c.in-Some-first_fed_line.rest.now (row_of c.in-Some.line.now) (row_of c.in-Some-first_fed_line.line.now) c.in-Some-read_head.head.share.chance o c.in-Some-read_head.ensures.chance)
 
-pub returns-clause-no : goal.returns-clause-no
-returns-clause-no c =
+pub returns-clause-worth : goal.returns-clause-worth
+returns-clause-worth c =
     let o : IsOpened c.args.bytes.now c.in-Some-first_fed_line.rest.now (row_of c.in-Some.line.now) (row_of c.in-Some-first_fed_line.line.now) =
     opened c.args.bytes.now c.in-Some.line.now c.in-Some.rest.now c.in-Some-first_fed_line.line.now c.in-Some-first_fed_line.rest.now c.in-Some.ensures.found c.in-Some-first_fed_line.ensures.found (c.in-Some-read_head.ensures.form [] refl) (c.in-Some-read_sizes.ensures.form _ refl (den_is (row_of c.in-Some.line.now) c.in-Some-read_head.head.share.den c.in-Some-read_head.ensures.den)) in
-    λ w e. let no = c.verdict_on.ensures.no w (cc) in (
-      no.0 ∙ worth_at c.args.bytes.now c.in-Some-first_fed_line.rest.now c.in-Some-read_head.head.name (row_of c.in-Some.line.now) (row_of c.in-Some-first_fed_line.line.now)
-          c.in-Some-read_sizes.sizes.seats c.in-Some-read_sizes.sizes.persons c.worth.result c.in-Ok.count o c.worth.ensures (c.in-Ok.ensures.counted _ o.start)
-          c.in-Some-read_head.ensures.name c.in-Some-read_sizes.ensures.seats c.in-Some-read_sizes.ensures.persons,
-      λ same. no.1 (sym (chance_is c.args.bytes.now c.in-Some-first_fed_line.rest.now (row_of c.in-Some.line.now) (row_of c.in-Some-first_fed_line.line.now) c.in-Some-read_head.head.share.chance o c.in-Some-read_head.ensures.chance) ∙ same),
-    )
+    worth_at c.args.bytes.now c.in-Some-first_fed_line.rest.now c.in-Some-read_head.head.name (row_of c.in-Some.line.now) (row_of c.in-Some-first_fed_line.line.now)
+    c.in-Some-read_sizes.sizes.seats c.in-Some-read_sizes.sizes.persons c.worth-right.result c.in-Ok.count o c.worth-right.ensures (c.in-Ok.ensures.counted _ o.start)
+    c.in-Some-read_head.ensures.name c.in-Some-read_sizes.ensures.seats c.in-Some-read_sizes.ensures.persons

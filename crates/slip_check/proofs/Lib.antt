@@ -1,3 +1,4 @@
+pub mod AgreeLemmas
 pub mod BallotLemmas
 pub mod CallLemmas
 pub mod CheckLemmas

@@ -36,7 +36,7 @@ map_map : {A B C : Type 0} (g : B → C) (h : A → B) (xs : List A) → map g (
 map_map g h [] = refl
 map_map g h (x ∷ xs) = ap (λ ys. g (h x) ∷ ys) (map_map g h xs)
 
-map_same : {A B : Type 0} (g h : A → B) (xs : List A) → AllByRecursion (λ x. g x ≡ h x) xs → map g xs ≡ map h xs
+pub map_same : {A B : Type 0} (g h : A → B) (xs : List A) → AllByRecursion (λ x. g x ≡ h x) xs → map g xs ≡ map h xs
 map_same g h [] all = refl
 map_same g h (x ∷ xs) all = ap (λ y. y ∷ map g xs) all.0 ∙ ap (λ ys. h x ∷ ys) (map_same g h xs all.1)
 
@@ -128,7 +128,7 @@ nobody_gives f r q h rl ql none =
     let nothing = need-none f.setting r (find_none r f.setting.owners none) in
     cents-not_reviewed f r q (count_below-zero_each (f.pairs r) (size f.setting) (owes ∙ nothing) q ql)
 
-firsts_below : (s : Setting) → IsSetting s → AllByRecursion (λ (o : Owner). o.first < size s) s.owners
+pub firsts_below : (s : Setting) → IsSetting s → AllByRecursion (λ (o : Owner). o.first < size s) s.owners
 firsts_below s h = recursion_from_All (λ (o : Owner). o.first < size s) s.owners (λ i d l. first_below s (get_or s.owners i d) h (i, l, sym (get_or_default s.owners i d (get_or s.owners i d) l)))
 
 each_gives : (f : Profile) (q : ℕ) (owners : List Owner) → IsSetting f.setting → q < size f.setting → AllByRecursion (λ (o : Owner). o.first < size f.setting) owners

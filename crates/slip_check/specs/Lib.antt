@@ -4,3 +4,4 @@ pub mod Form
 pub mod Counted
 pub mod Written
 pub mod Limits
+pub mod Places

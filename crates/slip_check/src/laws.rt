@@ -1,7 +1,7 @@
 //! Laws of slips. Each is proved once, here, and the functions have nothing to do.
 
 ghost use Rattle.std.specs.Prelude.{◌≡◌, ℕ, ◌*◌, ◌^◌, ◌<◌, None, drop};
-ghost use Rattle.house_base.specs.Setting.{name_at, size};
+ghost use Rattle.house_base.specs.Setting.{Setting, name_at, size};
 ghost use Rattle.house_base.specs.Text.{Text};
 ghost use Rattle.house_base.specs.declared.limits.TheConstants.{DOLLAR};
 ghost use Rattle.house_model.specs.Headline.{AreOfCall};
@@ -10,9 +10,10 @@ ghost use Rattle.house_model.specs.Reviews.{profile};
 ghost use Rattle.house_model.specs.Text.{Lines};
 ghost use Rattle.peer_selection.specs.Laws.{IsAssigned, IsInClusterOf, with_points};
 ghost use Rattle.peer_selection.specs.Lottery.{chance};
-ghost use Rattle.peer_selection.specs.Profile.{Profile};
+ghost use Rattle.peer_selection.specs.Profile.{Pairs, Points, Profile, profile_on};
 ghost use Rattle.slip_check.specs.Form.{fault_in, rows_of, slip_in};
 ghost use Rattle.slip_check.specs.Limits.{GivesSlips, IsRight, IsSlip, Says};
+ghost use Rattle.slip_check.specs.Places.{AgreeAtPlaces};
 ghost use Rattle.slip_check.specs.Slip.{Slip, printed_slip, slip_of, slip_text, worth};
 ghost use Rattle.slip_check.specs.Strict.{fed_lines};
 
@@ -41,6 +42,13 @@ pub fn slips_read_back()
         → (slip_in (rows_of bytes)).name ≡ name_at f.setting p
         → drop 1 (fed_lines bytes) ≡ drop 1 (fed_lines (printed_slip f p)) → worth (slip_in (rows_of bytes)) ≡ chance f p }
     ensures call { (lines : Lines) → AreOfCall lines → GivesSlips (profile lines) }
+{}
+
+/// A slip looks at the pairs and the points of places alone: where these agree, it is the same, and so is its text,
+/// chance and all.
+pub fn slips_look_at_places_alone()
+    ensures { (s : Setting) (a b : Pairs) (x y : Points) (p : ℕ) → IsAssigned (profile_on s a x)
+        → AgreeAtPlaces s a b x y → p < size s → printed_slip (profile_on s a x) p ≡ printed_slip (profile_on s b y) p }
 {}
 
 /// What a person writes as a reviewer is in no slip of its own cluster: with other points of a reviewer, and without the

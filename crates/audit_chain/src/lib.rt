@@ -7,7 +7,7 @@ mod chain;
 pub mod fault;
 pub mod laws;
 mod line;
-mod parts;
+pub mod parts;
 mod print;
 pub mod read;
 mod reading;
@@ -16,6 +16,7 @@ pub mod text;
 mod value;
 
 pub use fault::RowFault;
+pub use parts::first_row;
 pub use read::{read_rows, row_version};
 pub use text::{audit_text, audit1_text};
 

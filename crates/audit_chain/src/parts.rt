@@ -5,7 +5,7 @@ ghost use Rattle.command_text.specs.Held.{HasNoFeed};
 ghost use Rattle.audit_chain.specs.File.{parts};
 
 /// The first row of a file, without its line feed, and what stands behind. None where there is no line feed.
-pub(crate) fn first_row(bytes: &[u8]) -> Option<(&[u8], &[u8])>
+pub fn first_row(bytes: &[u8]) -> Option<(&[u8], &[u8])>
     ensures found { IfSome result (λ cut. parts bytes.now ≡ cut.0.now ∷ parts cut.1.now) }
     ensures shorter { IfSome result (λ cut. length cut.1.now < length bytes.now) }
     ensures none { IfNone result (parts bytes.now ≡ bytes.now ∷ []) }

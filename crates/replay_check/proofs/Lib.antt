@@ -1,0 +1,5 @@
+pub mod AnswerLemmas
+pub mod FilledLemmas
+pub mod RerunLemmas
+pub mod RowLemmas
+pub mod VerdictLemmas

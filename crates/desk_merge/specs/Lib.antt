@@ -1,0 +1,6 @@
+pub mod Joined
+pub mod Desk
+pub mod Entry
+pub mod Held
+pub mod Scan
+pub mod Merge

@@ -122,3 +122,8 @@ unfolding slip_in
 worth_at bytes after name first second seats persons result c o right count n s p =
     right (first ∷ second ∷ rows_of after) count (slip_in (first ∷ second ∷ rows_of after)) (sym n) (sym s) (sym p) refl refl
     ∙ sym (ap (λ rows. worth (slip_in rows)) o.rows)
+
+-- the persons that the second line names
+pub persons_at : (bytes after : Text) (first second : Row) (persons : ℕ) → IsOpened bytes after first second → persons ≡ number (word_at second 3) → persons ≡ (slip_in (rows_of bytes)).persons
+unfolding slip_in
+persons_at bytes after first second persons o h = h ∙ sym (ap (λ rows. (slip_in rows).persons) o.rows)

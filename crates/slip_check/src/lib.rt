@@ -8,6 +8,7 @@ mod check;
 mod count;
 mod head;
 pub mod laws;
+mod persons;
 mod stop;
 mod strict;
 mod word;
@@ -15,6 +16,7 @@ mod write;
 mod write_ballot;
 
 pub use check::{SlipFault, Verdict, check_slip};
+pub use persons::slip_persons;
 pub use write::{SlipWrite, write_slip};
 
 #[cfg(test)]

@@ -1,6 +1,6 @@
 //! Slips beside the answers that a check has to give.
 
-use crate::{SlipFault, Verdict, check_slip};
+use crate::{SlipFault, Verdict, check_slip, slip_persons};
 
 #[test]
 fn slips_are_checked(rt: HostRuntime) {
@@ -150,4 +150,10 @@ fn slips_are_checked(rt: HostRuntime) {
         let answer = check_slip(rt.alloc(), text.as_bytes());
         assert_eq!(rt; answer, wanted, "at {text:?}");
     }
+}
+
+#[test]
+fn persons_are_told(rt: HostRuntime) {
+    let slip = b"slip a chance 5/7000000\nseats 3 persons 7\n";
+    assert_eq!(rt; slip_persons(slip), Some(7));
 }

@@ -1,6 +1,6 @@
 -- What is promised of a call, from the answer to what was asked.
 use Rattle.std.proofs.Common.{◌≡◌, ◌⊎◌, ℕ, Bool, true, false, not, cond, ◌++◌, [], List, Option, Some, None, Result, Ok, Err, take, refl, sym, ap, ◌∙◌, subst, inl, inr, append-nil}
-use Rattle.std.specs.Prelude.{All, IfSome, IsSomeAnd, option_and_then}
+use Rattle.std.specs.Prelude.{All, IfSome, IsSomeAnd}
 use Rattle.std.specs.Option.{option_map}
 use Rattle.std.specs.Result.{result_ok}
 use Rattle.std.proofs.lemmas.Option.{IfSome_then}
@@ -28,8 +28,9 @@ use Rattle.house_top.specs.Due.{status_of_end, status_of_run, status_opened}
 use Rattle.house_io.specs.Files.{Contents}
 use Rattle.house_top.specs.Given.{Given, told}
 use Rattle.house_top.specs.Opening.{opening_of}
-use Rattle.house_top.specs.Promise.{Counts, EndsAsDue, Faults, IsCaused, IsDue, IsWellAssigned, KeepsFiles, KeepsThePromise, LoadRose, ReadRose, ReadsFarEnough, WritesWhatIsDue}
+use Rattle.house_top.specs.Promise.{Counts, EndsAsDue, Faults, IsCaused, IsDue, IsWellAssigned, KeepsFiles, KeepsThePromise, LoadRose, ReadRose, ReadsFarEnough, StoreRose, WritesWhatIsDue}
 use Rattle.house_top.specs.Words.{loads}
+use Rattle.house_top.proofs.AskLemmas.{heard_by, reported_by}
 use Rattle.house_top.proofs.AnswerLemmas.{ends_short_of, goes_to_report, taken_done}
 use Rattle.input_run.proofs.EndLemmas.{never_drawn}
 use Rattle.input_run.proofs.FrontLemmas.{heard_within}
@@ -47,6 +48,7 @@ whole_answered status.WriteFault h = h
 whole_answered status.Memory h = h
 whole_answered status.TooLong h = h
 whole_answered (status.BadFile why) h = h
+whole_answered (status.Wrong worth) h = h
 
 is_due : (d s : Status) → s ≡ d → IsDue d s
 is_due d status.Done h = h
@@ -58,6 +60,7 @@ is_due d status.WriteFault h = tt
 is_due d status.Memory h = tt
 is_due d status.TooLong h = h
 is_due d (status.BadFile why) h = h
+is_due d (status.Wrong worth) h = h
 
 not_usage : (s : Status) → IsAnswered s → s ≡ status.Usage → ⊥
 not_usage s answered is = subst IsAnswered is answered
@@ -101,15 +104,9 @@ unfolding RunsTo
 run_ends g opening true reports input = run_by g opening input (is_over input) (ends_run g (opening ++ heard input)) refl refl
 run_ends g opening false reports input = inl refl
 
--- what is run of an opening, what is reported, and what is heard
+-- what is run of an opening
 abbrev lines_by : Result Lines Status → Text → Option (Goal × Lines)
 lines_by opening input = option_map (λ run. (run.goal, lines_of run input)) (option_map opened_run (result_ok opening))
-
-abbrev report_by : Result Lines Status → Text → Option Lines
-report_by opening input = option_and_then (λ run. cond run.reports (Some (lines_of run input)) None) (option_map opened_run (result_ok opening))
-
-abbrev heard_by : Result Lines Status → Option (Goal × Lines)
-heard_by opening = option_and_then (λ run. cond run.hears (Some (run.goal, run.opening)) None) (option_map opened_run (result_ok opening))
 
 opened_ends : (opening : Result Lines Status) (input : Text) →
     IfSome (lines_by opening input) (λ run. RunsTo run.0 run.1 (status_opened opening input))
@@ -121,6 +118,8 @@ unfolding due_status
 due_runs None given = tt
 due_runs (Some (form.Input g)) given = run_ends g [] true (is_for_report g) given.input
 due_runs (Some form.Opened) given = opened_ends (opening_of given.files) given.input
+due_runs (Some form.Audit) given = run_ends goal.Run [] true true given.input
+due_runs (Some (form.Judged d)) given = tt
 
 short_end : (e : Ended) → status_of_end (Some e) ≡ status.Short → e ≡ Ended.Short
 short_end Ended.Done h = absurd (let wrong : ⊥ = cc in wrong)
@@ -159,7 +158,7 @@ well_assigned g all s (inl ends) done call = by_goal g call (done_end (end_of g 
 
 -- a run for the report is of lines whose report is written
 opened_is_reported : (opening : Result Lines Status) (input : Text) →
-    IfSome (report_by opening input) AreOfCall →
+    IfSome (reported_by opening input) AreOfCall →
     IfSome (lines_by opening input) (λ run. run.0 ≡ goal.Run → AreOfCall run.1)
 opened_is_reported (Ok opening) input call = λ run. call
 opened_is_reported (Err s) input call = tt
@@ -170,6 +169,8 @@ run_is_reported (Some (form.Input goal.Run)) given call = λ run. call
 run_is_reported (Some (form.Input goal.Pairs)) given call = λ run. absurd (let wrong : ⊥ = cc in wrong)
 run_is_reported (Some (form.Input goal.Feasible)) given call = λ run. absurd (let wrong : ⊥ = cc in wrong)
 run_is_reported (Some form.Opened) given call = opened_is_reported (opening_of given.files) given.input call
+run_is_reported (Some form.Audit) given call = λ run. call
+run_is_reported (Some (form.Judged d)) given call = tt
 
 -- The reports of the forms.
 
@@ -193,8 +194,8 @@ run_report run input text is done h call =
     ∙ ap report_of (taken_done (lines_of run input) call.done)
 
 opened_report : (opening : Result Lines Status) (input text : Text) → status_opened opening input ≡ status.Done → IsTextOpened opening input text →
-    IfSome (report_by opening input) AreOfCall →
-    IfSome (report_by opening input) (λ all. text ≡ report_of all)
+    IfSome (reported_by opening input) AreOfCall →
+    IfSome (reported_by opening input) (λ all. text ≡ report_of all)
 opened_report (Ok opening) input text done h call = run_report (opened_run opening) input text refl done h call
 opened_report (Err s) input text done h call = tt
 
@@ -207,6 +208,8 @@ report_is_due (Some (form.Input goal.Run)) given text done h call = run_report (
 report_is_due (Some (form.Input goal.Pairs)) given text done h call = tt
 report_is_due (Some (form.Input goal.Feasible)) given text done h call = tt
 report_is_due (Some form.Opened) given text done h call = opened_report (opening_of given.files) given.input text done h call
+report_is_due (Some form.Audit) given text done h call = run_report (run_behind goal.Run []) given.input text refl done h call
+report_is_due (Some (form.Judged d)) given text done h call = tt
 
 not_over : (opening : Lines) (input : Text) (over : Bool) → is_over input ≡ over → ends_run goal.Run (opening ++ heard input) ≡ false →
     status_of_end (outcome goal.Run opening input) ≡ status.Done → is_over input ≡ false
@@ -223,8 +226,8 @@ all_of_run opening true input done call =
 all_of_run opening false input done call = tt
 
 all_opened : (opening : Result Lines Status) (input : Text) → status_opened opening input ≡ status.Done →
-    IfSome (report_by opening input) AreOfCall →
-    IfSome (report_by opening input)
+    IfSome (reported_by opening input) AreOfCall →
+    IfSome (reported_by opening input)
     (λ all. IfSome (heard_by opening) (λ h. all ≡ h.1 ++ lines input))
 all_opened (Ok opening) input done call = all_of_run opening (not (ends_run goal.Run opening)) input done call
 all_opened (Err s) input done call = tt
@@ -237,6 +240,8 @@ all_lines (Some (form.Input goal.Run)) given done call = all_of_run [] true give
 all_lines (Some (form.Input goal.Pairs)) given done call = tt
 all_lines (Some (form.Input goal.Feasible)) given done call = tt
 all_lines (Some form.Opened) given done call = all_opened (opening_of given.files) given.input done call
+all_lines (Some form.Audit) given done call = all_of_run [] true given.input done call
+all_lines (Some (form.Judged d)) given done call = tt
 
 -- Where the words are of no form.
 
@@ -253,7 +258,7 @@ unfolding due_status
 no_form_ends given input faults = record {
   usage = (λ is. refl, λ is. refl);
   due = for_told given (λ given. refl);
-  complete = for_told given (λ given unread unloaded unwritten. inl refl);
+  complete = for_told given (λ given unread unloaded unstored unwritten. inl refl);
   read_fault = λ is. absurd (let wrong : ⊥ = cc in wrong);
   write_fault = λ is. absurd (let wrong : ⊥ = cc in wrong);
   too_long = λ is. absurd (let wrong : ⊥ = cc in wrong);
@@ -307,7 +312,7 @@ pub read_fault_ends : (asked : Option Form) (f : Form) (given : Option Given) (i
 read_fault_ends asked f given input faults some rose = record {
   usage = (λ is. absurd (let wrong : ⊥ = cc in wrong), λ none. absurd (asked_something asked f some none));
   due = for_told given (λ given. tt);
-  complete = for_told given (λ given unread unloaded unwritten. absurd (elim rose [ inl read ↦ unread read | inr loaded ↦ unloaded loaded ]));
+  complete = for_told given (λ given unread unloaded unstored unwritten. absurd (elim rose [ inl read ↦ unread read | inr loaded ↦ unloaded loaded ]));
   read_fault = λ is. rose;
   write_fault = λ is. absurd (let wrong : ⊥ = cc in wrong);
   too_long = λ is. absurd (let wrong : ⊥ = cc in wrong);
@@ -318,19 +323,19 @@ pub memory_ends : (asked : Option Form) (f : Form) (given : Option Given) (input
 memory_ends asked f given input faults some = record {
   usage = (λ is. absurd (let wrong : ⊥ = cc in wrong), λ none. absurd (asked_something asked f some none));
   due = for_told given (λ given. tt);
-  complete = for_told given (λ given unread unloaded unwritten. inr refl);
+  complete = for_told given (λ given unread unloaded unstored unwritten. inr refl);
   read_fault = λ is. absurd (let wrong : ⊥ = cc in wrong);
   write_fault = λ is. absurd (let wrong : ⊥ = cc in wrong);
   too_long = λ is. absurd (let wrong : ⊥ = cc in wrong);
   bad_file = λ why is. absurd (let wrong : ⊥ = cc in wrong);
 }
 
-pub write_fault_ends : (asked : Option Form) (f : Form) (given : Option Given) (input : Option Text) (faults : Faults) → asked ≡ Some f → Rose faults.writes.0 faults.writes.1 →
+pub write_fault_ends : (asked : Option Form) (f : Form) (given : Option Given) (input : Option Text) (faults : Faults) → asked ≡ Some f → Rose faults.writes.0 faults.writes.1 ⊎ StoreRose asked faults.loads →
     EndsAsDue asked given input status.WriteFault faults
 write_fault_ends asked f given input faults some rose = record {
   usage = (λ is. absurd (let wrong : ⊥ = cc in wrong), λ none. absurd (asked_something asked f some none));
   due = for_told given (λ given. tt);
-  complete = for_told given (λ given unread unloaded unwritten. absurd (unwritten rose));
+  complete = for_told given (λ given unread unloaded unstored unwritten. absurd (elim rose [ inl wrote ↦ unwritten wrote | inr stored ↦ unstored stored ]));
   read_fault = λ is. absurd (let wrong : ⊥ = cc in wrong);
   write_fault = λ is. rose;
   too_long = λ is. absurd (let wrong : ⊥ = cc in wrong);
@@ -401,7 +406,7 @@ pub whole_ends : (asked : Option Form) (f : Form) (given : Option Given) (input 
 whole_ends asked f given input s text faults some answers caused = record {
   usage = (λ is. absurd (not_usage s answers.answered is), λ none. absurd (asked_something asked f some none));
   due = IfSome_then given answers.as_due (λ given answer. is_due (due_status asked given) s answer.ends);
-  complete = IfSome_then given answers.as_due (λ given answer unread unloaded unwritten. inl answer.ends);
+  complete = IfSome_then given answers.as_due (λ given answer unread unloaded unstored unwritten. inl answer.ends);
   read_fault = λ is. absurd (not_read_fault s answers.answered is);
   write_fault = λ is. absurd (not_write_fault s answers.answered is);
   too_long = caused.too_long;

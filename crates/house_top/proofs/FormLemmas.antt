@@ -1,8 +1,7 @@
 -- The answers of the forms, from the answers of their runs.
 use Rattle.std.proofs.Common.{◌≡◌, ◌⊎◌, Bool, true, false, not, cond, ◌&&◌, [], ◌∷◌, ◌++◌, List, Option, Some, None, Result, Ok, Err, refl, sym, ap, ◌∙◌, subst, inl, inr}
-use Rattle.std.specs.Prelude.{IfOk, IfSome, IsSomeAnd, IsTrue, option_and_then}
+use Rattle.std.specs.Prelude.{IfOk, IfSome, IsSomeAnd, IsTrue}
 use Rattle.std.specs.Option.{option_map}
-use Rattle.std.specs.Result.{result_ok}
 use Rattle.house_io.specs.Faults.{Rose}
 use Rattle.house_io.specs.Files.{Contents}
 use Rattle.house_base.specs.Text.{Text}
@@ -23,16 +22,18 @@ use Rattle.house_top.specs.declared.opening.Opened.TheVariants as opened
 use Rattle.house_top.specs.declared.status.Status.{Status}
 use Rattle.house_top.specs.declared.status.Status.TheVariants as status
 use Rattle.house_top.specs.Answer.{Answers, AnswersRun, IsAnswerOfRun, IsAnswerTo, IsAnswered, IsOfRun, ReadsOpened, ReadsRun, status_of_answer}
-use Rattle.house_top.specs.Due.{IsTextOpened, Run, due_status, hears, is_for_report, lines_of, opened_run, reported, run_behind, status_of_end, status_opened, text_without_run}
+use Rattle.house_top.specs.Due.{IsTextOpened, Run, due_status, hears, is_for_report, opened_run, reported, run_behind, status_of_end, status_opened}
 use Rattle.house_top.specs.Given.{Given, held, input_alone, input_behind, told, told_behind}
-use Rattle.house_top.specs.Opened.{HasFewLines, IsOpened}
+use Rattle.house_top.specs.Opened.{HasFewLines, IsBadOpening, IsOpened, OpensNone}
 use Rattle.house_top.specs.Opening.{opening_of}
+use Rattle.house_top.specs.Refused.{text_without_run}
 use Rattle.house_top.specs.Promise.{Counts, IsCaused, KeepsFiles, ReadsFarEnough}
 use Rattle.house_top.specs.Words.{loads}
-use Rattle.input_run.specs.declared.input.InputFault.{InputFault}
-use Rattle.input_run.specs.declared.input.InputFault.TheVariants as faults
+use Rattle.input_run.specs.declared.fault.InputFault.{InputFault}
+use Rattle.input_run.specs.declared.fault.InputFault.TheVariants as faults
 use Rattle.input_run.specs.Input.{DecidedWhereTold, EndsWhereTold, NoFurtherWhereTold, UndecidedWhereTold}
 use Rattle.house_top.proofs.ReadLemmas.{nothing_further}
+use Rattle.house_top.proofs.AskLemmas.{heard_by, reported_by}
 
 -- How a run can end.
 
@@ -46,6 +47,7 @@ run_answered status.WriteFault h = absurd h
 run_answered status.Memory h = absurd h
 run_answered status.TooLong h = tt
 run_answered (status.BadFile why) h = absurd h
+run_answered (status.Wrong worth) h = absurd h
 
 not_bad : (s : Status) (why : Bad) → IsOfRun s → s ≡ status.BadFile why → ⊥
 not_bad s why of is = subst IsOfRun is of
@@ -84,7 +86,7 @@ input_call goal.Run input s call done = call refl done
 input_call goal.Pairs input s call done = tt
 input_call goal.Feasible input s call done = tt
 
-input_answers : (g : Goal) (names : List Text) (input : Option Text) (files : Option Contents) (s : Status) (text : Text) → AnswersRun (run_behind g []) input s text →
+pub input_answers : (g : Goal) (names : List Text) (input : Option Text) (files : Option Contents) (s : Status) (text : Text) → AnswersRun (run_behind g []) input s text →
     Answers (Some (form.Input g)) (told (Some (form.Input g)) names input files) s text
 unfolding due_status
 input_answers g names input files s text answers = record { answered = run_answered s answers.answered; as_due = where_told input answers.as_run }
@@ -160,13 +162,6 @@ input_reads {I} left r g names files loads old new answers reads = record {
     by_goal goal.Feasible given ends done = tt
 
 -- The words `run CALL REGISTER`.
-
--- the reports and the hearing of a call that opens so
-abbrev reported_by : Result Lines Status → Text → Option Lines
-reported_by opening input = option_and_then (λ run. cond run.reports (Some (lines_of run input)) None) (option_map opened_run (result_ok opening))
-
-abbrev heard_by : Result Lines Status → Option (Goal × Lines)
-heard_by opening = option_and_then (λ run. cond run.hears (Some (run.goal, run.opening)) None) (option_map opened_run (result_ok opening))
 
 abbrev with_files : List (Option Text) → Text → Given
 with_files files bytes = record { input = bytes; files = files }
@@ -255,7 +250,7 @@ pub lines_caused : (r : Result Answer InputFault) (lines : Lines) (given : Optio
 lines_caused r lines given input reads loads answers failed = record {
   read_fault = λ is. inl (failed (only_failed r (of_run _ _ r answers) is));
   too_long = λ long unloaded. mapped_some input (opened_long r lines (ends_run goal.Run lines) input refl answers long) (λ input over. inr over);
-  bad_file = λ why is. refl;
+  bad_file = λ why is. absurd (no_fault r (of_run _ _ r answers) why is);
 }
 
 due_long : (files : List (Option Text)) → opening_of files ≡ Err status.TooLong → due_status (Some form.Opened) (with_files files []) ≡ status.TooLong
@@ -268,7 +263,7 @@ long_caused : (names : List Text) (input : Option Text) (files : Option Contents
 long_caused names input files reads loads opens rose = record {
   read_fault = λ is. absurd (let wrong : ⊥ = cc in wrong);
   too_long = λ long unloaded. by_files files opens rose unloaded;
-  bad_file = λ why is. refl;
+  bad_file = λ why is. absurd (let wrong : ⊥ = cc in wrong);
 }
   where
     some_long : (input : Option Text) (files : List (Option Text)) → opening_of files ≡ Err status.TooLong →
@@ -284,11 +279,11 @@ long_caused names input files reads loads opens rose = record {
     by_files None opens rose unloaded = absurd (unloaded (rose refl))
     by_files (Some files) opens rose unloaded = for_input input (λ bytes. inl (some_long input (held names files) opens))
 
-bad_caused : (why : Bad) (given : Option Given) (input : Option Text) (reads loads : Counts) → IsCaused (Some form.Opened) given input (status.BadFile why) reads loads
-bad_caused why given input reads loads = record {
+bad_caused : (why : Bad) (given : Option Given) (input : Option Text) (reads loads : Counts) → OpensNone why → IsCaused (Some form.Opened) given input (status.BadFile why) reads loads
+bad_caused why given input reads loads none = record {
   read_fault = λ is. absurd (let wrong : ⊥ = cc in wrong);
   too_long = λ is. absurd (let wrong : ⊥ = cc in wrong);
-  bad_file = λ why is. refl;
+  bad_file = λ other is. subst OpensNone (let same : why ≡ other = cc in same) none;
 }
 
 pub fault_caused : (fault : InputFault) (given : Option Given) (input : Option Text) (reads loads : Counts) → (fault ≡ faults.Failed → Rose loads.0 loads.1) →
@@ -296,12 +291,12 @@ pub fault_caused : (fault : InputFault) (given : Option Given) (input : Option T
 fault_caused faults.Failed given input reads loads failed = record {
   read_fault = λ is. inr (failed refl);
   too_long = λ is. absurd (let wrong : ⊥ = cc in wrong);
-  bad_file = λ why is. refl;
+  bad_file = λ why is. absurd (let wrong : ⊥ = cc in wrong);
 }
 fault_caused faults.Memory given input reads loads failed = record {
   read_fault = λ is. absurd (let wrong : ⊥ = cc in wrong);
   too_long = λ is. absurd (let wrong : ⊥ = cc in wrong);
-  bad_file = λ why is. refl;
+  bad_file = λ why is. absurd (let wrong : ⊥ = cc in wrong);
 }
 
 -- How far the input is read.
@@ -461,8 +456,10 @@ kept {F} shown name names old new same = record { files_unchanged = same; shelf_
 
 -- The same of an answer with the status.
 
-pub bad_answer_caused : (s : Status) (why : Bad) (given : Option Given) (input : Option Text) (reads loads : Counts) → s ≡ status.BadFile why → IsCaused (Some form.Opened) given input s reads loads
-bad_answer_caused s why given input reads loads is = subst (λ s. IsCaused (Some form.Opened) given input s reads loads) (sym is) (bad_caused why given input reads loads)
+pub bad_answer_caused : (s : Status) (o : Opened) (why : Bad) (given : Option Given) (input : Option Text) (reads loads : Counts) → s ≡ status.BadFile why → o ≡ opened.Bad why → IsBadOpening o →
+    IsCaused (Some form.Opened) given input s reads loads
+bad_answer_caused s o why given input reads loads is opens none =
+    subst (λ s. IsCaused (Some form.Opened) given input s reads loads) (sym is) (bad_caused why given input reads loads (subst IsBadOpening opens none))
 
 pub long_answer_caused : (s : Status) (names : List Text) (input : Option Text) (files : Option Contents) (reads loads : Counts) → s ≡ status.TooLong →
     IfSome files (λ files. opening_of (held names files) ≡ Err status.TooLong) → (files ≡ None → Rose loads.0 loads.1) →
@@ -500,19 +497,19 @@ input_result (Ok answer) g names input files answers = input_answers g names inp
 input_result (Err fault) g names input files answers = tt
 
 -- the facts of other names
-pub named_answers : (r : Result Answer InputFault) (names these : List Text) (input : Option Text) (files : Option Contents) → names ≡ these →
-    IfOk r (λ answer. Answers (Some form.Opened) (told (Some form.Opened) these input files) answer.status answer.text.items) →
-    IfOk r (λ answer. Answers (Some form.Opened) (told (Some form.Opened) names input files) answer.status answer.text.items)
-named_answers r names these input files is answers =
-    subst (λ names. IfOk r (λ answer. Answers (Some form.Opened) (told (Some form.Opened) names input files) answer.status answer.text.items)) (sym is) answers
+pub named_answers : (f : Form) (r : Result Answer InputFault) (names these : List Text) (input : Option Text) (files : Option Contents) → names ≡ these →
+    IfOk r (λ answer. Answers (Some f) (told (Some f) these input files) answer.status answer.text.items) →
+    IfOk r (λ answer. Answers (Some f) (told (Some f) names input files) answer.status answer.text.items)
+named_answers f r names these input files is answers =
+    subst (λ names. IfOk r (λ answer. Answers (Some f) (told (Some f) names input files) answer.status answer.text.items)) (sym is) answers
 
-pub named_caused : (s : Status) (names these : List Text) (input : Option Text) (files : Option Contents) (reads loaded : Counts) → names ≡ these →
-    IsCaused (Some form.Opened) (told (Some form.Opened) these input files) input s reads loaded → IsCaused (Some form.Opened) (told (Some form.Opened) names input files) input s reads loaded
-named_caused s names these input files reads loaded is caused = subst (λ names. IsCaused (Some form.Opened) (told (Some form.Opened) names input files) input s reads loaded) (sym is) caused
+pub named_caused : (f : Form) (s : Status) (names these : List Text) (input : Option Text) (files : Option Contents) (reads loaded : Counts) → names ≡ these →
+    IsCaused (Some f) (told (Some f) these input files) input s reads loaded → IsCaused (Some f) (told (Some f) names input files) input s reads loaded
+named_caused f s names these input files reads loaded is caused = subst (λ names. IsCaused (Some f) (told (Some f) names input files) input s reads loaded) (sym is) caused
 
-pub named_reads : {I : Type 0} (left : I → Option Text) (s : Status) (names these : List Text) (input : Option Text) (files : Option Contents) (loaded : Counts) (old new : I) → names ≡ these →
-    ReadsFarEnough left (Some form.Opened) (told (Some form.Opened) these input files) loaded s old new → ReadsFarEnough left (Some form.Opened) (told (Some form.Opened) names input files) loaded s old new
-named_reads {I} left s names these input files loaded old new is reads = subst (λ names. ReadsFarEnough left (Some form.Opened) (told (Some form.Opened) names input files) loaded s old new) (sym is) reads
+pub named_reads : {I : Type 0} (left : I → Option Text) (f : Form) (s : Status) (names these : List Text) (input : Option Text) (files : Option Contents) (loaded : Counts) (old new : I) → names ≡ these →
+    ReadsFarEnough left (Some f) (told (Some f) these input files) loaded s old new → ReadsFarEnough left (Some f) (told (Some f) names input files) loaded s old new
+named_reads {I} left f s names these input files loaded old new is reads = subst (λ names. ReadsFarEnough left (Some f) (told (Some f) names input files) loaded s old new) (sym is) reads
 
 pub named_files : {F : Type 0} (shown : F → Option Contents) (names these : List Text) (old new : F) → names ≡ these → KeepsFiles shown these old new → KeepsFiles shown names old new
 named_files {F} shown names these old new is kept = subst (λ names. KeepsFiles shown names old new) (sym is) kept

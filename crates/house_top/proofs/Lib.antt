@@ -1,7 +1,9 @@
 pub mod AnswerLemmas
 pub mod AskLemmas
+pub mod AuditLemmas
 pub mod CallLemmas
 pub mod FormLemmas
+pub mod JudgedLemmas
 pub mod LoadLemmas
-pub mod PairLemmas
 pub mod ReadLemmas
+pub mod StoreLemmas

@@ -6,7 +6,7 @@ use Rattle.std.proofs.lemmas.Bool.{le-leb, lt-leb}
 use Rattle.call_file.specs.Opening.{opened}
 use Rattle.call_file.specs.declared.fault.OpenFault.{OpenFault}
 use Rattle.call_file.specs.declared.fault.OpenFault.TheVariants as fault
-use Rattle.input_run.specs.declared.input.InputFault.{InputFault}
+use Rattle.input_run.specs.declared.fault.InputFault.{InputFault}
 use Rattle.house_base.specs.Text.{Text}
 use Rattle.house_io.specs.Faults.{Rose}
 use Rattle.house_io.specs.Files.{Contents, IsLonger}

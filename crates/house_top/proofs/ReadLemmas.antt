@@ -5,7 +5,8 @@ use Rattle.command_text.proofs.FeedLemmas.{lines_of_none, whole_lines_of_part}
 use Rattle.std.proofs.lemmas.List.Elements.{All-nil}
 use Rattle.input_run.proofs.LineLemmas.{is_feed}
 use Rattle.house_base.specs.Text.{Text}
-use Rattle.house_core.specs.House.{Standing, StandsFor}
+use Rattle.input_run.specs.declared.line_run.LineRun.{LineRun}
+use Rattle.input_run.specs.Kept.{HasTaken}
 use Rattle.house_model.specs.declared.goal.Goal.{Goal}
 use Rattle.house_model.specs.declared.goal.Goal.TheVariants as goal
 use Rattle.house_model.specs.Heard.{is_over, whole_lines}
@@ -19,9 +20,9 @@ use Rattle.house_top.specs.Due.{IsRunText, is_for_report, opened_run, run_behind
 use Rattle.house_top.specs.Given.{input_behind}
 use Rattle.house_top.proofs.AnswerLemmas.{goes_to_report, of_run}
 use Rattle.input_run.specs.declared.input.Heard.{Heard}
-use Rattle.input_run.specs.declared.input.Heard.TheVariants as run
-use Rattle.input_run.specs.declared.input.InputFault.{InputFault}
-use Rattle.input_run.specs.declared.input.InputFault.TheVariants as faults
+use Rattle.input_run.specs.declared.input.Heard.TheVariants as what
+use Rattle.input_run.specs.declared.fault.InputFault.{InputFault}
+use Rattle.input_run.specs.declared.fault.InputFault.TheVariants as faults
 use Rattle.input_run.specs.declared.opening.Opening.{Opening}
 use Rattle.input_run.specs.declared.opening.Opening.TheVariants as openings
 use Rattle.input_run.specs.Hearing.{HasOpened, HasTakenOpening, HearsWhereTold, TellsEnd}
@@ -31,8 +32,8 @@ use Rattle.input_run.proofs.FrontLemmas.{within-from}
 use Rattle.input_run.proofs.HearLemmas.{go_on-none}
 
 -- a run that has taken no line goes on
-pub opened-none : (g : Goal) (house : Standing) → StandsFor g [] house → HasOpened g [] house
-opened-none g house stands = record { stands = stands; go_on = go_on-none g; few = omega arith }
+pub opened-none : (g : Goal) (run : LineRun) → HasTaken g [] run → HasOpened g [] run
+opened-none g run taken = record { taken = taken; go_on = go_on-none g; few = omega arith }
 
 -- a run that comes to its report has read all of the input
 all_read : (g : Goal) (opening : Lines) (before after : Option Text) (lines : Lines) (s : Status) (text : Text) → IfSome before (λ input. IsSomeAnd after (λ rest. TellsEnd g opening input rest lines)) →
@@ -46,8 +47,8 @@ all_read goal.Run opening (Some input) (Some rest) lines s text tells answer rep
 -- behind a report nothing of what was heard is left
 read_to_end : (g : Goal) (opening : Lines) (before after : Option Text) (heard : Heard) (s : Status) (text : Text) → HearsWhereTold g opening before after heard → IsHeardAnswer g heard s text →
     IsTrue (is_for_report g) → s ≡ status.Done → EndsWhereTold before after
-read_to_end g opening before after (run.Lines house) s text (lines, has, tells) answer report done = all_read g opening before after lines s text tells (answer lines has) report done
-read_to_end g opening before after run.TooLong s text over answer report done = absurd (let wrong : status.TooLong ≡ status.Done = sym answer.0 ∙ done in cc)
+read_to_end g opening before after (what.Lines run) s text (lines, has, few, tells) answer report done = all_read g opening before after lines s text tells (answer lines has) report done
+read_to_end g opening before after what.TooLong s text over answer report done = absurd (let wrong : status.TooLong ≡ status.Done = sym answer.0 ∙ done in cc)
 
 -- how far is read where there is an answer
 pub reads_answer : {I : Type 0} (left : I → Option Text) (g : Goal) (opening : Lines) (heard : Heard) (s : Status) (text : Text) (old new : I) → IsOfRun s →
@@ -160,8 +161,8 @@ going_result (Err fault) lines input goes answers = tt
 
 -- a run that was given its opening lines
 
-pub opened_going : (lines : Lines) (o : Opening) (house : Standing) → o ≡ openings.Going → HasTakenOpening goal.Run lines o house → HasOpened goal.Run lines house
-opened_going lines o house is taken = subst (λ o. HasTakenOpening goal.Run lines o house) is taken
+pub opened_going : (lines : Lines) (o : Opening) (run : LineRun) → o ≡ openings.Going → HasTakenOpening goal.Run lines o run → HasOpened goal.Run lines run
+opened_going lines o run is taken = subst (λ o. HasTakenOpening goal.Run lines o run) is taken
 
-pub opened_ended : (lines : Lines) (o : Opening) (house : Standing) → o ≡ openings.Ended → HasTakenOpening goal.Run lines o house → HasTakenOpening goal.Run lines openings.Ended house
-opened_ended lines o house is taken = subst (λ o. HasTakenOpening goal.Run lines o house) is taken
+pub opened_ended : (lines : Lines) (o : Opening) (run : LineRun) → o ≡ openings.Ended → HasTakenOpening goal.Run lines o run → HasTakenOpening goal.Run lines openings.Ended run
+opened_ended lines o run is taken = subst (λ o. HasTakenOpening goal.Run lines o run) is taken

@@ -11,8 +11,8 @@ use Rattle.house_top.specs.declared.answer.Answer.{Answer}
 use Rattle.house_top.specs.declared.form.Form.{Form}
 use Rattle.input_run.specs.declared.input.Heard.{Heard}
 use Rattle.input_run.specs.declared.input.Heard.TheVariants as heard
-use Rattle.input_run.specs.declared.input.InputFault.{InputFault}
-use Rattle.input_run.specs.declared.input.InputFault.TheVariants as fault
+use Rattle.input_run.specs.declared.fault.InputFault.{InputFault}
+use Rattle.input_run.specs.declared.fault.InputFault.TheVariants as fault
 use Rattle.house_top.specs.declared.status.Status.{Status}
 use Rattle.house_top.specs.declared.status.Status.TheVariants as status
 use Rattle.house_top.specs.Due.{IsDueText, IsRunText, IsTextOfRun, Run, due_status, is_for_report, lines_of, reported, status_of_end, status_of_run}
@@ -56,7 +56,7 @@ pub record IsEndAnswer (g : Goal) (lines : Lines) (s : Status) (text : Text) : T
 
 -- The answer to what was heard of an input: that of its lines, or that it is too long.
 abbrev pub IsHeardAnswer : Goal → Heard → Status → Text → Type 0
-IsHeardAnswer g (heard.Lines house) s text = (lines : Lines) → HasLines g lines house → IsEndAnswer g lines s text
+IsHeardAnswer g (heard.Lines run) s text = (lines : Lines) → HasLines g lines run → IsEndAnswer g lines s text
 IsHeardAnswer g heard.TooLong s text = (s ≡ status.TooLong) × (text ≡ line_of (codes "too-long" ∷ []))
 
 -- The answer of a run with an input: the status and the text are its own, and, where its report is written, its lines are

@@ -1,27 +1,27 @@
 -- What is due of a call of the program: its status, its text, and the lines that it runs.
-use Rattle.std.specs.Prelude.{◌≡◌, Bool, true, false, not, Option, Some, None, Result, Ok, Err, List, [], ◌∷◌, ◌++◌, codes, option_and_then, if◌then◌else◌}
+use Rattle.std.specs.Prelude.{◌≡◌, Bool, true, false, not, Option, Some, None, Result, Ok, Err, [], ◌∷◌, ◌++◌, codes, option_and_then, if◌then◌else◌}
 use Rattle.std.specs.Result.{result_ok}
-use Rattle.call_file.specs.Keys.{key_word}
 use Rattle.std.specs.Option.{option_map}
+use Rattle.audit_chain.specs.Chain.{audit_bytes}
 use Rattle.house_base.specs.Text.{Text}
 use Rattle.house_model.specs.declared.goal.Goal.{Goal}
 use Rattle.house_model.specs.declared.goal.Goal.TheVariants as goal
 use Rattle.house_model.specs.Ending.{Ended}
 use Rattle.house_model.specs.EndTexts.{IsTextOfEnd}
 use Rattle.house_model.specs.Heard.{heard}
+use Rattle.house_model.specs.LineMarks.{marks}
 use Rattle.house_model.specs.Outcome.{outcome}
 use Rattle.house_model.specs.Report.{line_of}
-use Rattle.house_model.specs.Runs.{end_of, ends_run, taken}
+use Rattle.house_model.specs.Runs.{end_of, ends_run, report_of, taken}
 use Rattle.house_model.specs.Text.{Lines}
-use Rattle.house_top.specs.declared.bad.Bad.{Bad}
-use Rattle.house_top.specs.declared.bad.Bad.TheVariants as bad
 use Rattle.house_top.specs.declared.form.Form.{Form}
 use Rattle.house_top.specs.declared.form.Form.TheVariants as form
 use Rattle.house_top.specs.declared.status.Status.{Status}
 use Rattle.house_top.specs.declared.status.Status.TheVariants as status
 use Rattle.house_top.specs.Given.{Given}
-use Rattle.house_top.specs.Opening.{opening_of}
-use Rattle.report_text.specs.BadFiles.{bad_key_words, bad_record_words, bad_toml_words}
+use Rattle.house_top.specs.Judged.{judged}
+use Rattle.house_top.specs.Opening.{file_at, opening_of}
+use Rattle.house_top.specs.Refused.{text_without_run}
 
 -- the status of a run that ends so; a run without an end is that of an input that is too long
 abbrev pub status_of_end : Option Ended → Status
@@ -63,7 +63,9 @@ opened_run opening =
 abbrev pub run_asked : Option Form → Given → Option Run
 run_asked None given = None
 run_asked (Some (form.Input g)) given = Some (run_behind g [])
+run_asked (Some form.Audit) given = Some (run_behind goal.Run [])
 run_asked (Some form.Opened) given = option_map opened_run (result_ok (opening_of given.files))
+run_asked (Some (form.Judged document)) given = None
 
 -- the lines of a run, with what it hears of an input
 abbrev pub lines_of : Run → Text → Lines
@@ -95,18 +97,6 @@ status_of_run run input = status_of_end (end_of_run run input)
 abbrev pub IsTextOfRun : Run → Text → Text → Type 0
 IsTextOfRun run input text = IsRunText (end_of_run run input) run.goal (taken run.goal (lines_of run input)) text
 
--- the words of the line that says why a file is refused
-abbrev pub bad_words : Bad → List Text
-bad_words bad.Toml = bad_toml_words
-bad_words (bad.Key key) = bad_key_words (key_word key)
-bad_words (bad.Entry number) = bad_record_words number
-
--- the text with which a call ends that has no run
-abbrev pub text_without_run : Status → Text
-text_without_run status.TooLong = line_of (codes "too-long" ∷ [])
-text_without_run (status.BadFile why) = line_of (bad_words why)
-text_without_run s = []
-
 -- the status of a call by what its files open a run with, and its text
 abbrev pub status_opened : Result Lines Status → Text → Status
 status_opened (Ok opening) input = status_of_run (opened_run opening) input
@@ -120,10 +110,23 @@ IsTextOpened (Err s) input text = text ≡ text_without_run s
 unfoldable pub due_status : Option Form → Given → Status
 due_status None given = status.Usage
 due_status (Some (form.Input g)) given = status_of_run (run_behind g []) given.input
+due_status (Some form.Audit) given = status_of_run (run_behind goal.Run []) given.input
 due_status (Some form.Opened) given = status_opened (opening_of given.files) given.input
+due_status (Some (form.Judged document)) given = (judged document (file_at given.files 0)).0
 
 -- the text that is to be given
 abbrev pub IsDueText : Option Form → Given → Text → Type 0
 IsDueText None given text = text ≡ []
 IsDueText (Some (form.Input g)) given text = IsTextOfRun (run_behind g []) given.input text
+IsDueText (Some form.Audit) given text = IsTextOfRun (run_behind goal.Run []) given.input text
 IsDueText (Some form.Opened) given text = IsTextOpened (opening_of given.files) given.input text
+IsDueText (Some (form.Judged document)) given text = text ≡ (judged document (file_at given.files 0)).1
+
+-- the audit of the second version of lines that come to their report
+abbrev pub audit_of : Lines → Text
+audit_of lines = audit_bytes 2 lines (marks lines) (report_of lines)
+
+-- the bytes that are to be stored where a call is done that stores a file
+abbrev pub due_file : Option Form → Given → Text
+due_file (Some form.Audit) given = audit_of (heard given.input)
+due_file asked given = []

@@ -22,6 +22,10 @@ pub record Given : Type 0 where
 abbrev pub input_alone : Text → Given
 input_alone input = record { input = input; files = [] }
 
+-- files, and an input that is not looked at
+abbrev pub files_alone : List (Option Text) → Given
+files_alone files = record { input = []; files = files }
+
 -- what the files of these names hold
 abbrev pub held : List Text → Contents → List (Option Text)
 held names files = map (get files) names
@@ -41,8 +45,10 @@ told_behind (Err s) input files = Some (record { input = []; files = files })
 abbrev pub told : Option Form → List Text → Option Text → Option Contents → Option Given
 told None names input files = Some (input_alone [])
 told (Some (form.Input g)) names input files = option_map input_alone input
+told (Some form.Audit) names input files = option_map input_alone input
 told (Some form.Opened) names input files =
     option_and_then (λ files. told_behind (opening_of (held names files)) input (held names files)) files
+told (Some (form.Judged document)) names input files = option_map (λ files. files_alone (held names files)) files
 
 -- what a call with these words is given, where all that they look at is told
 abbrev pub given_by : List Text → Option Text → Option Contents → Option Given

@@ -2,7 +2,10 @@ pub mod Words
 pub mod Opening
 pub mod Opened
 pub mod Given
+pub mod Refused
+pub mod Judged
 pub mod Due
 pub mod Answer
 pub mod Exit
 pub mod Promise
+pub mod Audited

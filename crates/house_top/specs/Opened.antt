@@ -2,6 +2,8 @@
 use Rattle.std.specs.Prelude.{◌≡◌, ◌+◌, ◌-◌, ◌^◌, ◌<◌, Result, Ok, Err, length}
 use Rattle.house_model.specs.declared.limits.TheConstants.{MOST_LINES}
 use Rattle.house_model.specs.Text.{Lines}
+use Rattle.house_top.specs.declared.bad.Bad.{Bad}
+use Rattle.house_top.specs.declared.bad.Bad.TheVariants as bad
 use Rattle.house_top.specs.declared.opening.Opened.{Opened}
 use Rattle.house_top.specs.declared.opening.Opened.TheVariants as opened
 use Rattle.house_top.specs.declared.status.Status.{Status}
@@ -18,3 +20,15 @@ abbrev pub HasFewLines : Opened → Type 0
 HasFewLines (opened.Lines lines) = length lines + MOST_LINES < 2 ^ 64 - 1
 HasFewLines (opened.Bad why) = Unit {0}
 HasFewLines opened.TooLong = Unit {0}
+
+-- a call file or a register can be refused for this
+abbrev pub OpensNone : Bad → Type 0
+OpensNone bad.Toml = Unit {0}
+OpensNone (bad.Key key) = Unit {0}
+OpensNone (bad.Entry number) = Unit {0}
+OpensNone (bad.Slip line) = ⊥
+
+-- where files open no run, it is for a fault that they can have
+abbrev pub IsBadOpening : Opened → Type 0
+IsBadOpening (opened.Bad why) = OpensNone why
+IsBadOpening o = Unit {0}

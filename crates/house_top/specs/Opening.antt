@@ -14,10 +14,14 @@ use Rattle.house_top.specs.declared.status.Status.TheVariants as status
 abbrev pub file_at : List (Option Text) → ℕ → Option Text
 file_at files index = option_and_then (λ file. file) (slice_get files index)
 
--- the bytes of a file within the limit, or the status with which a call ends without them
+-- the bytes of a file within a limit, or the status with which a call ends without them
+abbrev pub loaded_within : ℕ → Option Text → Result Text Status
+loaded_within most None = Err status.ReadFault
+loaded_within most (Some bytes) = if nat_le (length bytes) most then Ok bytes else Err status.TooLong
+
+-- the same within the limit of an input
 abbrev pub loaded : Option Text → Result Text Status
-loaded None = Err status.ReadFault
-loaded (Some bytes) = if nat_le (length bytes) MOST_BYTES then Ok bytes else Err status.TooLong
+loaded file = loaded_within MOST_BYTES file
 
 -- the status with which a call ends where its call file or its register is refused
 abbrev pub status_of_refusal : OpenFault → Status

@@ -1,7 +1,7 @@
 -- What is promised of a call of the program, by what it asks for and what it is given, where that is told.
-use Rattle.std.specs.Prelude.{◌≡◌, ◌≢◌, ◌↔◌, ◌⊎◌, ◌++◌, ℕ, true, List, [], Option, None, Some, IfSome, IsSomeAnd, IsTrue, take}
+use Rattle.std.specs.Prelude.{◌≡◌, ◌≢◌, ◌↔◌, ◌⊎◌, ◌++◌, ℕ, true, false, List, [], Option, None, Some, IfSome, IsSomeAnd, IsTrue, take}
 use Rattle.house_io.specs.Faults.{Rose}
-use Rattle.house_io.specs.Files.{Contents}
+use Rattle.house_io.specs.Files.{Contents, KeepsOthers, told_with}
 use Rattle.house_io.specs.Sink.{AppendsWhereTold}
 use Rattle.house_base.specs.Text.{Text}
 use Rattle.peer_selection.specs.FirstAssignment.{has_assignment}
@@ -19,8 +19,11 @@ use Rattle.house_top.specs.declared.form.Form.TheVariants as form
 use Rattle.house_top.specs.declared.status.Status.{Status}
 use Rattle.house_top.specs.declared.status.Status.TheVariants as status
 use Rattle.house_top.specs.Answer.{IsShortOrFault, IsWhole}
-use Rattle.house_top.specs.Due.{IsDueText, due_status, hears, reported, run_of}
+use Rattle.house_top.specs.Due.{IsDueText, due_file, due_status, hears, reported, run_of}
 use Rattle.house_top.specs.Given.{Given}
+use Rattle.house_top.specs.Judged.{IsVerdict}
+use Rattle.house_top.specs.Opened.{OpensNone}
+use Rattle.house_top.specs.Words.{is_storing, last_name, loads}
 use Rattle.input_run.specs.Input.{DecidedWhereTold, EndsWhereTold, NoFurtherWhereTold, UndecidedWhereTold}
 
 -- The status.
@@ -49,13 +52,29 @@ counted reads loads writes = record { reads = reads; loads = loads; writes = wri
 abbrev pub ReadRose : Option Form → Counts → Type 0
 ReadRose None reads = ⊥
 ReadRose (Some (form.Input g)) reads = Rose reads.0 reads.1
+ReadRose (Some form.Audit) reads = Rose reads.0 reads.1
 ReadRose (Some form.Opened) reads = Rose reads.0 reads.1
+ReadRose (Some (form.Judged document)) reads = ⊥
 
 -- the words load files, and their count rose
 abbrev pub LoadRose : Option Form → Counts → Type 0
 LoadRose None loads = ⊥
 LoadRose (Some (form.Input g)) loads = ⊥
+LoadRose (Some form.Audit) loads = ⊥
 LoadRose (Some form.Opened) loads = Rose loads.0 loads.1
+LoadRose (Some (form.Judged document)) loads = Rose loads.0 loads.1
+
+-- the words store a file, and the count of the files rose
+abbrev pub StoreRose : Option Form → Counts → Type 0
+StoreRose asked files = IsTrue (is_storing asked) × Rose files.0 files.1
+
+-- a file of the words can be refused for this
+abbrev pub IsBadOf : Option Form → Bad → Type 0
+IsBadOf None why = ⊥
+IsBadOf (Some (form.Input g)) why = ⊥
+IsBadOf (Some form.Audit) why = ⊥
+IsBadOf (Some form.Opened) why = OpensNone why
+IsBadOf (Some (form.Judged document)) why = IsVerdict document (status.BadFile why)
 
 -- why a call fails to read, and where a length that is not told is too long: a count of what its words look at rose
 pub record IsCaused (asked : Option Form) (given : Option Given) (input : Option Text) (s : Status)
@@ -63,7 +82,7 @@ pub record IsCaused (asked : Option Form) (given : Option Given) (input : Option
   pub read_fault : s ≡ status.ReadFault → ReadRose asked reads ⊎ LoadRose asked loads
   pub too_long : s ≡ status.TooLong → ¬ LoadRose asked loads → IfSome input (λ input.
       IsSomeAnd given (λ given. due_status asked given ≡ status.TooLong) ⊎ (is_over input ≡ true))
-  pub bad_file : (why : Bad) → s ≡ status.BadFile why → asked ≡ Some form.Opened
+  pub bad_file : (why : Bad) → s ≡ status.BadFile why → IsBadOf asked why
 
 -- a call ends as is due, or for a fault that was counted, or for want of memory
 pub record EndsAsDue (asked : Option Form) (given : Option Given) (input : Option Text) (s : Status)
@@ -71,13 +90,13 @@ pub record EndsAsDue (asked : Option Form) (given : Option Given) (input : Optio
   pub usage : (s ≡ status.Usage) ↔ (asked ≡ None)
   pub due : IfSome given (λ given. IsDue (due_status asked given) s)
   pub complete : IfSome given (λ given. ¬ ReadRose asked faults.reads → ¬ LoadRose asked faults.loads →
-      ¬ Rose faults.writes.0 faults.writes.1 → (s ≡ due_status asked given) ⊎ (s ≡ status.Memory))
+      ¬ StoreRose asked faults.loads → ¬ Rose faults.writes.0 faults.writes.1 → (s ≡ due_status asked given) ⊎ (s ≡ status.Memory))
   pub read_fault : s ≡ status.ReadFault → ReadRose asked faults.reads ⊎ LoadRose asked faults.loads
-  pub write_fault : s ≡ status.WriteFault → Rose faults.writes.0 faults.writes.1
+  pub write_fault : s ≡ status.WriteFault → Rose faults.writes.0 faults.writes.1 ⊎ StoreRose asked faults.loads
   -- of files that do not tell their length: one that is too long is counted
   pub too_long : s ≡ status.TooLong → ¬ LoadRose asked faults.loads → IfSome input (λ input.
       IsSomeAnd given (λ given. due_status asked given ≡ status.TooLong) ⊎ (is_over input ≡ true))
-  pub bad_file : (why : Bad) → s ≡ status.BadFile why → asked ≡ Some form.Opened
+  pub bad_file : (why : Bad) → s ≡ status.BadFile why → IsBadOf asked why
 
 -- What is written.
 
@@ -145,7 +164,25 @@ pub record ReadsFarEnough {I : Type 0} (left : I → Option Text) (asked : Optio
   pub unheard_is_unread : IfSome given (λ given. hears asked given ≡ None → new ≡ old)
   pub bad_file_reads_nothing : (why : Bad) → s ≡ status.BadFile why → new ≡ old
 
--- all files hold what they held, and where none is loaded nothing at all has become of them
+-- where no file is stored: all files hold what they held, and where none is loaded nothing at all has become of them
 pub record KeepsFiles {F : Type 0} (shown : F → Option Contents) (loaded : List Text) (old new : F) : Type 0 where
   pub files_unchanged : shown new ≡ shown old
   pub shelf_unchanged : loaded ≡ [] → new ≡ old
+
+-- What becomes of files where one may be stored under the last name: a call that is done has stored what is due there,
+-- and no other call has stored anything, or it was a store that failed; all other files hold what they held.
+pub record StoresWhatIsDue {F : Type 0} (shown : F → Option Contents) (asked : Option Form) (names : List Text)
+    (given : Option Given) (s : Status) (old new : F) : Type 0 where
+  pub stored : s ≡ status.Done → IsTrue (is_storing asked) → IfSome given (λ given.
+      shown new ≡ told_with (shown old) (last_name names) (due_file asked given))
+  pub unless_stored : s ≢ status.Done → s ≢ status.WriteFault → shown new ≡ shown old
+  pub others_unchanged : KeepsOthers (shown old) (shown new) (last_name names)
+  pub unasked : is_storing asked ≡ false → KeepsFiles shown (loads asked names) old new
+
+-- Where a call fails to write: a front of the text was given, and no file has changed; or the text was given whole, and
+-- the file that the words store was not stored.
+pub record FailsToWrite {O F : Type 0} (told : O → Option Text) (shown : F → Option Contents) (asked : Option Form)
+    (given : Option Given) (s : Status) (faults : Faults) (old new : O) (before after : F) : Type 0 where
+  pub write_fault_by_one : s ≡ status.WriteFault →
+      (Rose faults.writes.0 faults.writes.1 × (shown after ≡ shown before))
+      ⊎ (StoreRose asked faults.loads × IfSome given (λ given. Gives (told old) (told new) (IsDueText asked given)))

@@ -1,10 +1,11 @@
 -- What the words of a call of the program ask for.
-use Rattle.std.specs.Prelude.{Bool, false, ◌&&◌, not, Option, Some, None, List, [], ◌∷◌, drop, map, String, string_bytes, codes, if◌then◌else◌}
+use Rattle.std.specs.Prelude.{◌-◌, Bool, true, false, ◌&&◌, not, Option, Some, None, List, [], ◌∷◌, drop, length, map, slice_index_or, String, string_bytes, codes, if◌then◌else◌}
 use Rattle.std.specs.Cmp.Lexicographic.{pointwise}
 use Rattle.std.specs.Str.{bytes_eq}
 use Rattle.house_base.specs.Text.{Text}
 use Rattle.house_model.specs.Text.{is_empty}
 use Rattle.house_model.specs.declared.goal.Goal.TheVariants as goal
+use Rattle.house_top.specs.declared.document.Document.TheVariants as document
 use Rattle.house_top.specs.declared.form.Form.{Form}
 use Rattle.house_top.specs.declared.form.Form.TheVariants as form
 
@@ -15,6 +16,11 @@ texts words = map string_bytes words
 -- whether the words are these
 abbrev pub are_words : List Text → List Text → Bool
 are_words words these = pointwise bytes_eq words these
+
+-- the words are this one, and behind it the name of a file, which is not empty
+abbrev pub name_one_file : Text → List Text → Bool
+name_one_file word (first ∷ one ∷ []) = bytes_eq first word && not (is_empty one)
+name_one_file word words = false
 
 -- the words are this one, and behind it the names of two files, none of them empty
 abbrev pub name_two_files : Text → List Text → Bool
@@ -28,7 +34,17 @@ names_in words = drop 1 words
 -- the names of the files that are loaded
 abbrev pub loads : Option Form → List Text → List Text
 loads (Some form.Opened) names = names
+loads (Some (form.Judged document)) names = names
 loads asked names = []
+
+-- whether a file is stored
+abbrev pub is_storing : Option Form → Bool
+is_storing (Some form.Audit) = true
+is_storing asked = false
+
+-- the last of some names
+abbrev pub last_name : List Text → Text
+last_name names = slice_index_or names (length names - 1) []
 
 -- what the words ask for; nothing where they are of no form
 unfoldable pub form_of : List Text → Option Form
@@ -37,6 +53,8 @@ form_of words =
     else if are_words words (codes "feasible" ∷ []) then Some (form.Input goal.Feasible)
     else if are_words words (codes "pairs" ∷ []) then Some (form.Input goal.Pairs)
     else if name_two_files (codes "run") words then Some form.Opened
+    else if name_one_file (codes "audit") words then Some form.Audit
+    else if name_one_file (codes "check") words then Some (form.Judged document.Slip)
     else None
 
 -- the names of the files that a call with these words loads

@@ -11,4 +11,6 @@ pub enum Bad {
     Key(Key),
     /// The record of the register with this number, counted from 1, is not of its form.
     Entry(u64),
+    /// The line of a slip with this number, counted from 1, is off the form, or the first that is missing.
+    Slip(u64),
 }

@@ -1,12 +1,14 @@
 //! What the words ask for, and the answer to it: a function for each form.
 
-ghost use Rattle.std.specs.Prelude.{◌≡◌, All, IfOk, Some};
+ghost use Rattle.std.specs.Prelude.{◌≡◌, false, All, IfOk, Some};
 ghost use Rattle.house_top.specs.Answer.{Answers, status_of_answer};
 ghost use Rattle.house_top.specs.Given.{told};
 ghost use Rattle.house_top.specs.Promise.{IsCaused, KeepsFiles, ReadsFarEnough};
-ghost use Rattle.house_top.specs.Words.{form_of, loads, names_in, texts};
+ghost use Rattle.house_top.specs.Words.{form_of, is_storing, loads, names_in, texts};
 
+pub(crate) mod audit;
 mod input;
+mod judged;
 mod opened;
 
 use crate::answer::Answer;
@@ -23,6 +25,7 @@ pub fn answer_to<I: Source, F: Files>(
     input: &mut I,
     files: &mut F,
 ) -> Result<Answer, InputFault>
+    requires reads { is_storing (Some form) ≡ false }
     requires form { form_of (texts words.now.items) ≡ Some form }
     requires ready { All (F.ready files.old) (loads (Some form) (names_in (texts words.now.items))) }
     ensures answer { let names = names_in (texts words.now.items) in
@@ -39,6 +42,8 @@ pub fn answer_to<I: Source, F: Files>(
 {
     match form {
         Form::Input(goal) => input::run_input(alloc, goal, input),
+        // Its file is stored by words of their own, and none of these come here.
+        Form::Audit => unreachable!(),
         Form::Opened => opened::run_opened(
             alloc,
             words[1].as_str(),
@@ -46,5 +51,6 @@ pub fn answer_to<I: Source, F: Files>(
             input,
             files,
         ),
+        Form::Judged(document) => judged::judge_file(alloc, document, words[1].as_str(), files),
     }
 }

@@ -5,15 +5,20 @@
 mod answer;
 mod bad;
 mod call;
+mod document;
 mod form;
 mod forms;
 mod opening;
 mod output;
 mod run;
+mod slip;
 mod status;
+mod store;
 mod words;
 
 pub use bad::Bad;
 pub use call::{house, read_only};
+pub use document::Document;
 pub use form::Form;
 pub use status::Status;
+pub use words::is_storing;

@@ -7,7 +7,7 @@ ghost use Rattle.house_io.specs.Faults.{Rose};
 ghost use Rattle.house_model.specs.declared.limits.TheConstants.{MOST_BYTES};
 ghost use Rattle.house_top.specs.declared.status.Status.TheVariants as status;
 ghost use Rattle.house_top.specs.Given.{held};
-ghost use Rattle.house_top.specs.Opened.{HasFewLines, IsOpened};
+ghost use Rattle.house_top.specs.Opened.{HasFewLines, IsBadOpening, IsOpened};
 ghost use Rattle.house_top.specs.Opening.{by_grammar, loaded, opened_by, opening_of};
 
 use crate::bad::Bad;
@@ -41,6 +41,7 @@ pub fn open_files<F: Files>(
     ensures opened { IfOk result (λ files_opened. IfSome (F.contents files.old) (λ all.
         IsOpened (opening_of (held (call.now ∷ register.now ∷ []) all)) files_opened)) }
     ensures few { IfOk result HasFewLines }
+    ensures bad { IfOk result IsBadOpening }
     ensures too_long { IfOk result (λ files_opened. files_opened ≡ Opened.TooLong → F.contents files.old ≡ None →
         Rose (F.faults files.old) (F.faults files.new)) }
     ensures failed { IsErrOf result InputFault.Failed → Rose (F.faults files.old) (F.faults files.new) }
@@ -85,6 +86,7 @@ fn load_both<F: Files>(
 fn read_both(alloc: Global, call: &[u8], register: &[u8]) -> Result<Opened, InputFault>
     ensures opened { IfOk result (IsOpened (by_grammar (opened call.now register.now))) }
     ensures few { length register.now ≤ MOST_BYTES → IfOk result HasFewLines }
+    ensures bad { IfOk result IsBadOpening }
     ensures never_failed { IsErrOf result InputFault.Failed → ⊥ }
 {
     match open_lines(alloc, call, register) {

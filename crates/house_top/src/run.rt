@@ -13,27 +13,26 @@ ghost use Rattle.input_run.specs.Hearing.{HasOpened};
 use crate::answer::{Answer, answer_heard, answer_of};
 use command_text::Lines;
 use house_base::Memory;
-use house_core::House;
 use house_io::Source;
 use house_model::Goal;
-use input_run::{InputFault, Opening, hear_input, take_opening};
+use input_run::{InputFault, LineRun, Opening, hear_input, take_opening};
 use std::alloc::Global;
 
 /// Hears an input in a run that has taken its opening lines, and takes all memory that the answer needs.
 pub fn run_behind<I: Source>(
     alloc: Global,
     goal: Goal,
-    house: House,
+    run: LineRun,
     input: &mut I,
 ) -> Result<Answer, InputFault>
-    requires { (opening : Lines) × HasOpened goal opening house }
-    ensures answer { (opening : Lines) → HasOpened goal opening house →
+    requires { (opening : Lines) × HasOpened goal opening run }
+    ensures answer { (opening : Lines) → HasOpened goal opening run →
         IfOk result (λ answer. AnswersRun (run_behind goal opening) (I.left input.old) answer.status answer.text.items) }
     ensures failed { IsErrOf result InputFault.Failed → Rose (I.faults input.old) (I.faults input.new) }
-    ensures reads { (opening : Lines) → HasOpened goal opening house →
+    ensures reads { (opening : Lines) → HasOpened goal opening run →
         ReadsRun I.left goal opening (status_of_answer result) input.old input.new }
 {
-    match hear_input(alloc, goal, house, input) {
+    match hear_input(alloc, goal, run, input) {
         Ok(heard) => match answer_heard(alloc, goal, &heard) {
             Ok(answer) => Ok(answer),
             Err(Memory) => Err(InputFault::Memory),
@@ -54,10 +53,10 @@ pub fn run_lines<I: Source>(
     ensures failed { IsErrOf result InputFault.Failed → Rose (I.faults input.old) (I.faults input.new) }
     ensures reads { ReadsOpened I.left lines.now (status_of_answer result) input.old input.new }
 {
-    let mut house = House::new(alloc, Goal::Run);
-    match take_opening(Goal::Run, &mut house, lines) {
-        Ok(Opening::Going) => run_behind(alloc, Goal::Run, house, input),
-        Ok(Opening::Ended) => match answer_of(alloc, Goal::Run, &house) {
+    let mut run = LineRun::new(alloc, Goal::Run);
+    match take_opening(Goal::Run, &mut run, lines) {
+        Ok(Opening::Going) => run_behind(alloc, Goal::Run, run, input),
+        Ok(Opening::Ended) => match answer_of(alloc, Goal::Run, &run) {
             Ok(answer) => Ok(answer),
             Err(Memory) => Err(InputFault::Memory),
         },

@@ -27,6 +27,8 @@ pub enum Status {
     TooLong,
     /// A file is refused.
     BadFile(Bad),
+    /// A slip prints a wrong chance; this is the right one.
+    Wrong(u64),
 }
 
 impl Status {
@@ -44,6 +46,7 @@ impl Status {
             Status::Memory => 6,
             Status::TooLong => 8,
             Status::BadFile(_) => 9,
+            Status::Wrong(_) => 10,
         }
     }
 }

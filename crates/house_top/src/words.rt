@@ -1,8 +1,9 @@
 //! The words of a call of the program.
 
 ghost use Rattle.std.specs.Prelude.{◌≡◌, ◌∷◌, []};
-ghost use Rattle.house_top.specs.Words.{are_words, form_of, name_two_files, texts};
+ghost use Rattle.house_top.specs.Words.{are_words, form_of, is_storing, name_one_file, name_two_files, texts};
 
+use crate::document::Document;
 use crate::form::Form;
 use house_model::Goal;
 
@@ -19,9 +20,20 @@ pub fn form_of(words: &Vec<String>) -> Option<Form>
         Some(Form::Input(Goal::Pairs))
     } else if name_two_files(words, "run") {
         Some(Form::Opened)
+    } else if name_one_file(words, "audit") {
+        Some(Form::Audit)
+    } else if name_one_file(words, "check") {
+        Some(Form::Judged(Document::Slip))
     } else {
         None
     }
+}
+
+/// Whether a call with these words stores a file. `read_only` takes no such words.
+pub fn is_storing(words: &Vec<String>) -> bool
+    ensures { result ≡ is_storing (form_of (texts words.now.items)) }
+{
+    matches!(form_of(words), Some(Form::Audit))
 }
 
 /// Whether the words are this one alone.
@@ -29,6 +41,13 @@ fn is_word(words: &Vec<String>, word: &str) -> bool
     ensures { result ≡ are_words (texts words.now.items) (word.now ∷ []) }
 {
     words.len() == 1 && words[0].as_str() == word
+}
+
+/// Whether the words are this one and behind it the name of a file, which is not empty.
+fn name_one_file(words: &Vec<String>, word: &str) -> bool
+    ensures { result ≡ name_one_file word.now (texts words.now.items) }
+{
+    words.len() == 2 && words[0].as_str() == word && !words[1].is_empty()
 }
 
 /// Whether the words are this one and behind it the names of two files, none of them empty.

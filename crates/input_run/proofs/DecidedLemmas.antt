@@ -2,7 +2,7 @@
 use Rattle.std.proofs.Common.{◌≡◌, ◌≢◌, ℕ, ◌<◌, ◌||◌, [], ◌∷◌, ◌++◌, length, refl, sym, ap, ◌∙◌, subst, append_assoc, arith}
 use Rattle.std.specs.Prelude.{Option, None, Some}
 use Rattle.std.proofs.lemmas.Bool.{or_right}
-use Rattle.house_core.specs.House.{Standing}
+use Rattle.input_run.specs.declared.line_run.LineRun.{LineRun}
 use Rattle.house_base.specs.Text.{Text}
 use Rattle.house_model.specs.declared.goal.Goal.{Goal}
 use Rattle.house_model.specs.Heard.{is_over, whole_lines}
@@ -15,8 +15,8 @@ use Rattle.input_run.specs.Hearing.{HasEnded, IsFull}
 use Rattle.input_run.specs.Input.{DecidedWhereTold, IsDecided, TakesWhereTold}
 
 -- a line that ends the run is among the bytes
-line_decides : (g : Goal) (opening : Lines) (text behind : Text) (house : Standing) → HasEnded g opening text house → IsDecided g opening (text ++ behind)
-line_decides g opening text behind house ended =
+line_decides : (g : Goal) (opening : Lines) (text behind : Text) (run : LineRun) → HasEnded g opening text run → IsDecided g opening (text ++ behind)
+line_decides g opening text behind run ended =
     let front = whole-front text behind in
     let parts : opening ++ whole_lines (text ++ behind) ≡ (opening ++ whole_lines text) ++ front.more =
     ap (λ ls. opening ++ ls) front.parts ∙ sym (append_assoc opening (whole_lines text) front.more) in
@@ -35,10 +35,10 @@ decided g opening (Some input) (Some rest) taken told decides = λ some. subst (
 parts_of : (bytes piece front behind : Text) → piece ≡ front ++ behind → bytes ++ piece ≡ (bytes ++ front) ++ behind
 parts_of bytes piece front behind parts = ap (λ p. bytes ++ p) parts ∙ sym (append_assoc bytes front behind)
 
-pub ended_decides : (g : Goal) (opening : Lines) (first last : Option Text) (bytes piece front behind : Text) (house : Standing) → TakesWhereTold first last (bytes ++ piece) → piece ≡ front ++ behind →
-    HasEnded g opening (bytes ++ front) house → DecidedWhereTold g opening first last
-ended_decides g opening first last bytes piece front behind house taken parts ended =
-    decided g opening first last (bytes ++ piece) taken (subst (IsDecided g opening) (sym (parts_of bytes piece front behind parts)) (line_decides g opening (bytes ++ front) behind house ended))
+pub ended_decides : (g : Goal) (opening : Lines) (first last : Option Text) (bytes piece front behind : Text) (run : LineRun) → TakesWhereTold first last (bytes ++ piece) → piece ≡ front ++ behind →
+    HasEnded g opening (bytes ++ front) run → DecidedWhereTold g opening first last
+ended_decides g opening first last bytes piece front behind run taken parts ended =
+    decided g opening first last (bytes ++ piece) taken (subst (IsDecided g opening) (sym (parts_of bytes piece front behind parts)) (line_decides g opening (bytes ++ front) behind run ended))
 
 some_behind : (behind : Text) → behind ≢ [] → 0 < length behind
 some_behind [] h = absurd (h refl)

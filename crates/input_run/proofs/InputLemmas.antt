@@ -1,10 +1,9 @@
 -- What was taken of an input, over the calls of a loop.
-use Rattle.std.proofs.Common.{◌≡◌, ◌≢◌, ℕ, ◌-◌, ◌<◌, ◌≤◌, List, [], ◌∷◌, ◌++◌, length, take, drop, refl, sym, ap, ◌∙◌, arith, append_assoc, append-nil, length-append, length-take, subst, inl, inr}
+use Rattle.std.proofs.Common.{◌≡◌, ◌≢◌, ℕ, ◌+◌, ◌-◌, ◌<◌, ◌≤◌, List, [], ◌∷◌, ◌++◌, length, take, drop, refl, sym, ap, ◌∙◌, arith, append_assoc, append-nil, length-append, length-take, subst, inl, inr}
 use Rattle.std.specs.Prelude.{Option, None, Some, IfSome, IsSomeAnd}
-use Rattle.std.specs.Io.KnownBytes.{IsAtEnd}
 use Rattle.std.proofs.lemmas.List.{take-append-drop}
 use Rattle.std.proofs.Math.Seq.{take-append_seam}
-use Rattle.house_core.specs.House.{Standing}
+use Rattle.input_run.specs.declared.line_run.LineRun.{LineRun}
 use Rattle.house_io.specs.Faults.{Rose}
 use Rattle.house_io.specs.Source.{Takes}
 use Rattle.house_base.specs.Text.{Text}
@@ -15,10 +14,10 @@ use Rattle.house_model.specs.Text.{Lines}
 use Rattle.input_run.specs.declared.hearing.Hearing.{Hearing}
 use Rattle.input_run.specs.declared.input.Heard.TheVariants as heard
 use Rattle.input_run.proofs.EndLemmas.{goes_on}
-use Rattle.house_model.specs.declared.limits.TheConstants.{MOST_BYTES}
-use Rattle.input_run.proofs.FrontLemmas.{within-limits}
+use Rattle.house_model.specs.declared.limits.TheConstants.{MOST_BYTES, MOST_LINES}
+use Rattle.input_run.proofs.FrontLemmas.{whole-few, within-limits}
 use Rattle.input_run.proofs.TellLemmas.{tells_ended, too_long}
-use Rattle.input_run.specs.Hearing.{HasEnded, HasHeard, HasLines, HearsWhereTold, IsFull, TellsEnd}
+use Rattle.input_run.specs.Hearing.{HasEnded, HasHeard, HearsWhereTold, IsFull, TellsEnd}
 use Rattle.input_run.specs.Input.{IsNoFurther, IsUndecided, NoFurtherWhereTold, TakesWhereTold, UndecidedWhereTold, most_at_once, taken_before}
 
 -- no call takes nothing
@@ -75,17 +74,22 @@ behind_front : (input bytes piece front behind rest : Text) → input ≡ (bytes
 behind_front input bytes piece front behind rest taken parts =
     taken ∙ ap (λ p. (bytes ++ p) ++ rest) parts ∙ simp append_assoc
 
+-- opening lines and no more behind them than an input has
+pub few_lines : (opening lines : Lines) → length lines ≤ MOST_LINES → length (opening ++ lines) ≤ length opening + MOST_LINES
+few_lines opening lines few = omega (arith, length-append opening lines, few)
+
 -- a line that ends the run was heard
-pub ended_told : (g : Goal) (opening : Lines) (first last : Option Text) (bytes piece front behind : Text) (house : Standing) → TakesWhereTold first last (bytes ++ piece) → piece ≡ front ++ behind →
-    HasEnded g opening (bytes ++ front) house → HearsWhereTold g opening first last (heard.Lines house)
-ended_told g opening first last bytes piece front behind house taken parts ended = (opening ++ whole_lines (bytes ++ front), ended.lines, go first last taken)
+pub ended_told : (g : Goal) (opening : Lines) (first last : Option Text) (bytes piece front behind : Text) (run : LineRun) → TakesWhereTold first last (bytes ++ piece) → piece ≡ front ++ behind →
+    HasEnded g opening (bytes ++ front) run → HearsWhereTold g opening first last (heard.Lines run)
+ended_told g opening first last bytes piece front behind run taken parts ended =
+    (opening ++ whole_lines (bytes ++ front), ended.lines, few_lines opening (whole_lines (bytes ++ front)) (whole-few (bytes ++ front) ended.within), go first last taken)
   where
     go : (first last : Option Text) → TakesWhereTold first last (bytes ++ piece) → IfSome first (λ input. IsSomeAnd last (λ rest. TellsEnd g opening input rest (opening ++ whole_lines (bytes ++ front))))
     go None last taken = tt
     go (Some input) None taken = absurd taken
     go (Some input) (Some rest) taken =
         subst (λ input. TellsEnd g opening input rest (opening ++ whole_lines (bytes ++ front))) (sym (behind_front input bytes piece front behind rest taken parts))
-        (tells_ended g opening (bytes ++ front) (behind ++ rest) rest house ended)
+        (tells_ended g opening (bytes ++ front) (behind ++ rest) rest run ended)
 
 some_byte : (behind rest : Text) → behind ≢ [] → 0 < length (behind ++ rest)
 some_byte [] rest h = absurd (h refl)
@@ -102,29 +106,11 @@ over_told g opening first last bytes piece front behind taken parts some full = 
     go (Some input) (Some rest) taken =
         ap (outcome g opening) (behind_front input bytes piece front behind rest taken parts) ∙ too_long g opening (bytes ++ front) (behind ++ rest) full (some_byte behind rest some)
 
--- the input is at its end
-pub end_told : (g : Goal) (opening : Lines) (first middle last : Option Text) (bytes buffer : Text) (house : Standing) (lines : Lines) → TakesWhereTold first middle bytes → IsAtEnd middle →
-    IfSome middle (λ before. Takes 0 before last buffer) → HasLines g lines house → TellsEnd g opening bytes [] lines → HearsWhereTold g opening first last (heard.Lines house)
-end_told g opening first middle last bytes buffer house lines taken end takes has tells = (lines, has, go first middle taken end takes)
-  where
-    go : (first middle : Option Text) → TakesWhereTold first middle bytes → IsAtEnd middle → IfSome middle (λ before. Takes 0 before last buffer) →
-        IfSome first (λ input. IsSomeAnd last (λ rest. TellsEnd g opening input rest lines))
-    go None middle taken end takes = tt
-    go (Some input) None taken end takes = absurd taken
-    go (Some input) (Some rest) taken end takes =
-        let none : rest ≡ [] = end in
-        let all : input ≡ bytes = taken ∙ ap (λ r. bytes ++ r) none ∙ append-nil bytes in
-        subst (λ last. IsSomeAnd last (λ rest. TellsEnd g opening input rest lines)) (sym takes.rest)
-        (subst (λ r. TellsEnd g opening input r lines) (sym none) (subst (λ i. TellsEnd g opening i [] lines) (sym all) tells))
-
 -- Where a piece is what was taken into a buffer.
 
 pub piece_heard : (g : Goal) (opening : Lines) (bytes piece buffer : Text) (count : ℕ) (h : Hearing) → HasHeard g opening (bytes ++ piece) h → piece ≡ take count buffer →
     HasHeard g opening (bytes ++ take count buffer) h
 piece_heard g opening bytes piece buffer count h hears is = subst (λ t. HasHeard g opening (bytes ++ t) h) is hears
-
-pub piece_taken : (first last : Option Text) (bytes piece buffer : Text) (count : ℕ) → TakesWhereTold first last (bytes ++ take count buffer) → piece ≡ take count buffer → TakesWhereTold first last (bytes ++ piece)
-piece_taken first last bytes piece buffer count taken is = subst (λ t. TakesWhereTold first last (bytes ++ t)) (sym is) taken
 
 -- with each piece fewer bytes are left of the limit
 pub fewer_left : (g : Goal) (opening : Lines) (bytes buffer : Text) (count : ℕ) (old new : Hearing) → HasHeard g opening bytes old → HasHeard g opening (bytes ++ take count buffer) new → count ≢ 0 →
@@ -146,7 +132,3 @@ no_further-piece g opening first middle last bytes buffer count h taken takes ho
 pub rose_over : (first middle last : ℕ) → first ≤ middle → Rose middle last → Rose first last
 rose_over first middle last le (inl more) = inl (omega arith)
 rose_over first middle last le (inr top) = inr top
-
--- a call that took none
-pub none_taken : (middle last : Option Text) (buffer : Text) (count : ℕ) → count ≡ 0 → IfSome middle (λ before. Takes count before last buffer) → IfSome middle (λ before. Takes 0 before last buffer)
-none_taken middle last buffer count none takes = subst (λ n. IfSome middle (λ before. Takes n before last buffer)) none takes

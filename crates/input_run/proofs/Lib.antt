@@ -4,6 +4,8 @@ pub mod EndLemmas
 pub mod FrontLemmas
 pub mod HearLemmas
 pub mod InputLemmas
+pub mod KeptLemmas
 pub mod LineLemmas
 pub mod OpeningLemmas
 pub mod TellLemmas
+pub mod PieceLemmas

@@ -1,6 +1,6 @@
 -- What lines tell of an input.
 use Rattle.std.proofs.Common.{◌≡◌, ◌<◌, Bool, true, false, not, cond, ◌&&◌, [], ◌++◌, length, Option, Some, None, refl, sym, ap, ◌∙◌, append_assoc}
-use Rattle.house_core.specs.House.{Standing}
+use Rattle.input_run.specs.declared.line_run.LineRun.{LineRun}
 use Rattle.house_base.specs.Text.{Text}
 use Rattle.house_model.specs.declared.goal.Goal.{Goal}
 use Rattle.house_model.specs.Ending.{Ended}
@@ -25,8 +25,8 @@ never_over true d e = refl
 never_over false d e = refl
 
 -- a line that ends a run tells how it ends
-pub tells_ended : (g : Goal) (opening : Lines) (bytes behind rest : Text) (house : Standing) → HasEnded g opening bytes house → TellsEnd g opening (bytes ++ behind) rest (opening ++ whole_lines bytes)
-tells_ended g opening bytes behind rest house ended =
+pub tells_ended : (g : Goal) (opening : Lines) (bytes behind rest : Text) (run : LineRun) → HasEnded g opening bytes run → TellsEnd g opening (bytes ++ behind) rest (opening ++ whole_lines bytes)
+tells_ended g opening bytes behind rest run ended =
     let front = heard-front bytes behind ended.within in
     let parts : opening ++ heard (bytes ++ behind) ≡ (opening ++ whole_lines bytes) ++ front.more =
     ap (λ ls. opening ++ ls) front.parts ∙ sym (append_assoc opening (whole_lines bytes) front.more) in

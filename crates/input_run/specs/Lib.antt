@@ -1,2 +1,4 @@
 pub mod Hearing
 pub mod Input
+pub mod Kept
+pub mod Piece

@@ -1,8 +1,8 @@
 //! A run that hears its input in pieces.
 
+use crate::line_run::{LineRun, Taken, take_line};
 use command_text::Cutter;
-use house_base::{Memory, Phase, Took};
-use house_core::{House, Step};
+use house_base::Memory;
 use house_model::Goal;
 use house_model::limits::{MOST_BYTES, MOST_LINES};
 use std::alloc::Global;
@@ -20,38 +20,11 @@ pub enum Progress {
     Memory,
 }
 
-/// What a line of a run has come to.
-#[derive(Clone, Copy, Debug, PartialEq, Eq)]
-pub enum Taken {
-    /// The run goes on, and this became of the line.
-    Going(Took),
-    /// The line has ended the run.
-    Ended,
-    /// No memory was left.
-    Memory,
-}
-
-impl Taken {
-    ghost use Rattle.std.specs.Prelude.{◌≡◌};
-    ghost use Rattle.input_run.specs.Hearing.{progress_of};
-
-    /// How far the run has come with the line.
-    fn progress(self) -> Progress
-        ensures { result ≡ progress_of self }
-    {
-        match self {
-            Taken::Going(_) => Progress::Going,
-            Taken::Ended => Progress::Ended,
-            Taken::Memory => Progress::Memory,
-        }
-    }
-}
-
-/// A run, and what it has heard of its input. No line is kept but the one that has begun.
+/// A run, and what it has heard of its input. Of the input itself no more is kept than the line that has begun.
 #[derive(Drop)]
 pub struct Hearing {
     pub goal: Goal,
-    pub house: House,
+    pub run: LineRun,
     pub cutter: Cutter,
     /// How many bytes of the input were heard.
     pub bytes: usize,
@@ -64,15 +37,17 @@ impl Hearing {
     ghost use Rattle.house_model.specs.Text.{Lines, lines};
     ghost use Rattle.house_model.specs.declared.goal.Goal.{Goal};
     ghost use Rattle.house_model.specs.declared.limits.TheConstants.{MOST_BYTES, MOST_LINES};
+    ghost use Rattle.input_run.specs.Kept.{keeps};
     ghost use Rattle.input_run.specs.Hearing.{Advances, HasHeard, HasLines, HasOpened, HearsPiece, TellsEnd};
 
     /// A run that has taken its opening lines, and has heard nothing of its input.
-    pub fn new(alloc: Global, goal: Goal, house: House) -> Hearing
-        ensures { (opening : Lines) → HasOpened goal opening house → HasHeard goal opening [] result }
+    pub fn new(alloc: Global, goal: Goal, run: LineRun) -> Hearing
+        ensures heard { (opening : Lines) → HasOpened goal opening run → HasHeard goal opening [] result }
+        ensures keeps { keeps result.run ≡ keeps run }
     {
         Hearing {
             goal,
-            house,
+            run,
             cutter: Cutter::new(alloc),
             bytes: 0,
             lines: 0,
@@ -81,8 +56,9 @@ impl Hearing {
 
     /// Hears a piece of the input, line by line, up to one that ends the run or to the end of the limits.
     pub fn hear(&mut self, piece: &[u8]) -> Progress
-        ensures { (g : Goal) (opening : Lines) (heard : List ℕ) → HasHeard g opening heard self.old →
+        ensures hears { (g : Goal) (opening : Lines) (heard : List ℕ) → HasHeard g opening heard self.old →
             HearsPiece g opening heard piece.now result self.new }
+        ensures keeps { keeps self.new.run ≡ keeps self.old.run }
     {
         let mut rest = piece;
         while !rest.is_empty() {
@@ -107,11 +83,12 @@ impl Hearing {
         ensures some { 0 < length piece.now → result.1 ≡ Progress.Going → 0 < result.0 }
         ensures advances { (g : Goal) (opening : Lines) (heard : List ℕ) → HasHeard g opening heard self.old →
             Advances g opening (heard ++ take result.0 piece.now) result.1 self.new }
+        ensures keeps { keeps self.new.run ≡ keeps self.old.run }
     {
         if let Some((line, used)) = self.cutter.whole_line(piece) {
             self.bytes += used;
             self.lines += 1;
-            return (used, take_line(self.goal, &mut self.house, line).progress());
+            return (used, take_line(self.goal, &mut self.run, line).progress());
         }
         let Ok(fed) = self.cutter.feed(piece) else {
             return (0, Progress::Memory);
@@ -123,83 +100,30 @@ impl Hearing {
         self.lines += 1;
         (
             fed.used,
-            take_line(self.goal, &mut self.house, line).progress(),
+            take_line(self.goal, &mut self.run, line).progress(),
         )
     }
 
     /// The run at the end of the input, whose last line no line feed need end.
-    pub fn finish(self) -> Result<House, Memory>
-        ensures { (g : Goal) (opening : Lines) (heard : List ℕ) → HasHeard g opening heard self →
-            IfOk result (λ house. HasLines g (opening ++ lines heard) house
+    pub fn finish(self) -> Result<LineRun, Memory>
+        ensures ends { (g : Goal) (opening : Lines) (heard : List ℕ) → HasHeard g opening heard self →
+            IfOk result (λ run. HasLines g (opening ++ lines heard) run
             × TellsEnd g opening heard [] (opening ++ lines heard)) }
+        ensures keeps { IfOk result (λ run. keeps run ≡ keeps self.run) }
     {
         let Hearing {
             goal,
-            mut house,
+            mut run,
             cutter,
             bytes: _,
             lines: _,
         } = self;
         match cutter.rest() {
-            Some(line) => match take_line(goal, &mut house, line) {
+            Some(line) => match take_line(goal, &mut run, line) {
                 Taken::Memory => Err(Memory),
-                _ => Ok(house),
+                _ => Ok(run),
             },
-            None => Ok(house),
+            None => Ok(run),
         }
     }
-}
-
-ghost use Rattle.std.specs.Prelude.{◌≡◌, ◌^◌, ◌-◌, ◌<◌, ◌&&◌, length};
-ghost use Rattle.house_core.specs.House.{StandsFor};
-ghost use Rattle.house_model.specs.Ending.{in_force};
-ghost use Rattle.house_model.specs.Reviews.{is_before_assignment};
-ghost use Rattle.house_model.specs.Runs.{halt, settles};
-ghost use Rattle.house_model.specs.Said.{has};
-ghost use Rattle.house_model.specs.Text.{Lines};
-ghost use Rattle.house_model.specs.declared.verb.Verb.TheVariants as verb;
-ghost use Rattle.input_run.specs.Hearing.{GoOn, TakesLine};
-
-/// Gives a house its next line.
-pub(crate) fn take_line(goal: Goal, house: &mut House, line: &[u8]) -> Taken
-    ensures { (lines : Lines) → StandsFor goal lines house.old → GoOn goal lines → length lines < 2 ^ 64 - 1 →
-        TakesLine goal lines line.now result house.new }
-{
-    match house.line(line) {
-        Step::Going(took) => {
-            if is_settled(goal, house) {
-                Taken::Ended
-            } else {
-                Taken::Going(took)
-            }
-        }
-        Step::Refused(_, _) => Taken::Ended,
-        Step::Short => Taken::Ended,
-        Step::Memory => Taken::Memory,
-    }
-}
-
-/// Whether an accepted assignment has reached the goal.
-fn is_settled(goal: Goal, house: &House) -> bool
-    ensures { (lines : Lines) → StandsFor goal lines house.now →
-        result ≡ (settles goal && has verb.Assign (in_force (halt goal) lines)) }
-{
-    settles(goal) && !is_opening(house.phase())
-}
-
-/// Whether a goal is reached by an assignment that is accepted.
-fn settles(goal: Goal) -> bool
-    ensures { result ≡ settles goal }
-{
-    match goal {
-        Goal::Run => false,
-        Goal::Pairs | Goal::Feasible => true,
-    }
-}
-
-/// Whether no assignment was accepted yet.
-fn is_opening(phase: Phase) -> bool
-    ensures { result ≡ is_before_assignment phase }
-{
-    matches!(phase, Phase::Opening)
 }

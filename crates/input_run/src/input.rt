@@ -4,11 +4,13 @@ ghost use Rattle.std.specs.Prelude.{◌≡◌, ◌≤◌, IfOk, OnOk, IsErrOf, v
 ghost use Rattle.house_io.specs.Faults.{Rose};
 ghost use Rattle.house_model.specs.Text.{Lines};
 ghost use Rattle.input_run.specs.Hearing.{HasOpened, HearsWhereTold};
+ghost use Rattle.input_run.specs.Kept.{KeepsOn};
 ghost use Rattle.input_run.specs.Input.{DecidedWhereTold, NoFurtherWhereTold, UndecidedWhereTold};
 
-use crate::hearing::{Hearing, Progress};
-use house_base::Memory;
-use house_core::House;
+use crate::fault::InputFault;
+use crate::hearing::Hearing;
+use crate::line_run::LineRun;
+use crate::piece::{HearingEnd, take_pieces};
 use house_io::Source;
 use house_model::Goal;
 use std::alloc::{AllocError, Global};
@@ -16,42 +18,11 @@ use std::alloc::{AllocError, Global};
 /// How many bytes are asked for at once.
 const PIECE: usize = 65_536;
 
-/// Why an input was not heard.
-#[derive(Clone, Copy, Debug, PartialEq, Eq)]
-pub enum InputFault {
-    /// The source failed.
-    Failed,
-    /// No memory was left.
-    Memory,
-}
-
-impl From<AllocError> for InputFault {
-    ghost use Rattle.std.specs.Prelude.{◌≡◌};
-    ghost use Rattle.input_run.specs.declared.input.InputFault.TheVariants as fault;
-
-    ghost from_gives = { λ _ why. why ≡ fault.Memory };
-
-    fn from(_: AllocError) -> Self {
-        InputFault::Memory
-    }
-}
-
-impl From<Memory> for InputFault {
-    ghost use Rattle.std.specs.Prelude.{◌≡◌};
-    ghost use Rattle.input_run.specs.declared.input.InputFault.TheVariants as fault;
-
-    ghost from_gives = { λ _ why. why ≡ fault.Memory };
-
-    fn from(_: Memory) -> Self {
-        InputFault::Memory
-    }
-}
-
 /// What was heard of an input.
 #[derive(Drop)]
 pub enum Heard {
     /// The run at the line that ends it, or at the end of the input.
-    Lines(House),
+    Lines(LineRun),
     /// The input is over its limits, and no line within them ends the run.
     TooLong,
 }
@@ -61,34 +32,28 @@ pub enum Heard {
 pub fn hear_input<I: Source>(
     alloc: Global,
     goal: Goal,
-    house: House,
+    run: LineRun,
     input: &mut I,
 ) -> Result<Heard, InputFault>
-    requires { (opening : Lines) × HasOpened goal opening house }
-    ensures heard { (opening : Lines) → HasOpened goal opening house →
+    requires { (opening : Lines) × HasOpened goal opening run }
+    ensures heard { (opening : Lines) → HasOpened goal opening run →
         IfOk result (λ heard. HearsWhereTold goal opening (I.left input.old) (I.left input.new) heard) }
-    ensures decided { (opening : Lines) → HasOpened goal opening house →
+    ensures keeps { IfOk result (KeepsOn run) }
+    ensures decided { (opening : Lines) → HasOpened goal opening run →
         OnOk result (DecidedWhereTold goal opening (I.left input.old) (I.left input.new)) }
     ensures failed { IsErrOf result InputFault.Failed → Rose (I.faults input.old) (I.faults input.new) }
-    ensures undecided { (opening : Lines) → HasOpened goal opening house → IsErrOf result InputFault.Failed →
+    ensures undecided { (opening : Lines) → HasOpened goal opening run → IsErrOf result InputFault.Failed →
         UndecidedWhereTold goal opening (I.left input.old) (I.left input.new) }
-    ensures no_further { (opening : Lines) → HasOpened goal opening house →
+    ensures no_further { (opening : Lines) → HasOpened goal opening run →
         NoFurtherWhereTold goal opening (I.left input.old) (I.left input.new) }
 {
-    let mut hearing = Hearing::new(alloc, goal, house);
+    let mut hearing = Hearing::new(alloc, goal, run);
     let mut piece = zeros(alloc, PIECE)?;
-    let buffer = piece.as_mut_slice();
-    'pieces: loop {
-        match input.take(buffer) {
-            Ok(0) => return Ok(Heard::Lines(hearing.finish()?)),
-            Ok(count) => match hearing.hear(&buffer[..count]) {
-                Progress::Going => {}
-                Progress::Ended => return Ok(Heard::Lines(hearing.house)),
-                Progress::Over => return Ok(Heard::TooLong),
-                Progress::Memory => return Err(InputFault::Memory),
-            },
-            Err(_) => return Err(InputFault::Failed),
-        }
+    match take_pieces(&mut hearing, input, piece.as_mut_slice()) {
+        Ok(HearingEnd::AtEnd) => Ok(Heard::Lines(hearing.finish()?)),
+        Ok(HearingEnd::Ended) => Ok(Heard::Lines(hearing.run)),
+        Ok(HearingEnd::Over) => Ok(Heard::TooLong),
+        Err(fault) => Err(fault),
     }
 }
 

@@ -3,9 +3,16 @@
 
 #![tactic(auto)]
 
+mod fault;
 mod hearing;
 mod input;
+mod kept;
+mod line_run;
 mod opening;
+mod piece;
 
-pub use input::{Heard, InputFault, hear_input};
+pub use fault::InputFault;
+pub use input::{Heard, hear_input};
+pub use kept::Kept;
+pub use line_run::LineRun;
 pub use opening::{Opening, take_opening};

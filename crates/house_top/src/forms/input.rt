@@ -7,10 +7,9 @@ ghost use Rattle.house_top.specs.Due.{run_behind};
 
 use crate::answer::Answer;
 use crate::run::run_behind;
-use house_core::House;
 use house_io::Source;
 use house_model::Goal;
-use input_run::InputFault;
+use input_run::{InputFault, LineRun};
 use std::alloc::Global;
 
 /// Runs the lines of an input for a goal, and takes all memory that the answer needs.
@@ -20,5 +19,5 @@ pub fn run_input<I: Source>(alloc: Global, goal: Goal, input: &mut I) -> Result<
     ensures failed { IsErrOf result InputFault.Failed → Rose (I.faults input.old) (I.faults input.new) }
     ensures reads { ReadsRun I.left goal [] (status_of_answer result) input.old input.new }
 {
-    run_behind(alloc, goal, House::new(alloc, goal), input)
+    run_behind(alloc, goal, LineRun::new(alloc, goal), input)
 }

@@ -1,46 +1,9 @@
-use Rattle.std.proofs.Common.{Some, refl, sym, subst}
-use Rattle.house_core.specs.declared.step.Ending.TheVariants as ending
-use Rattle.house_base.specs.Setting.{Setting}
-use Rattle.house_core.specs.Ends.{IsEnding}
-use Rattle.house_core.specs.Standing.{HoldsPairs}
-use Rattle.house_model.specs.Ending.{Ended, in_force}
-use Rattle.house_model.specs.Runs.{end_of, halt}
-use Rattle.house_model.specs.Said.{run_pairs}
-use Rattle.house_top.proofs.AnswerLemmas.{assigned_answer, both, reported_answer, short_answer, told_end}
+use Rattle.house_top.proofs.AnswerLemmas.{ended_answer}
 use Rattle.house_top.proofs.answer.answer_of.Goals as goal
 
-pub returns-in-Done : goal.returns-in-Done
-returns-in-Done c = λ lines has_lines.
-    let g = c.args.goal in
-    let said = in_force (halt g) lines in
-    let answer = ending.Done c.in-Done.outcome in
-    let ends = c.in-Done.ensures.ends g lines has_lines.stands has_lines.few in
-    let done = told_end (end_of g lines) Ended.Done g said answer ends refl in
-    let outcome = subst (λ (e : Ended). IsEnding e g said answer) done ends in
-    both c.reported.result c.reported.ensures.status c.reported.ensures.text
-    (λ answer status text. reported_answer g lines answer.status answer.text.items c.in-Done.outcome has_lines.looked done outcome status text)
+pub end_text-requires : goal.end_text-requires
+end_text-requires c = let lines = c.requires.0 in (lines, c.requires.1.taken.stands, c.requires.1.few)
 
-pub returns-in-Short : goal.returns-in-Short
-returns-in-Short c = λ lines has_lines.
-    let g = c.args.goal in
-    let said = in_force (halt g) lines in
-    let answer = ending.Short c.in-Short.plan c.in-Short.cut in
-    let ends = c.in-Short.ensures.ends g lines has_lines.stands has_lines.few in
-    let short = told_end (end_of g lines) Ended.Short g said answer ends refl in
-    let shown = subst (λ (e : Ended). IsEnding e g said answer) short ends in
-    both c.short.result c.short.ensures.status c.short.ensures.text
-    (λ answer status text. short_answer g lines answer.status answer.text.items c.in-Short.plan.now c.in-Short.cut.now has_lines.looked short shown.0 shown.1 status text)
-
-pub returns-in-Settled-default-Some : goal.returns-in-Settled-default-Some
-returns-in-Settled-default-Some c = λ lines has_lines.
-    let g = c.args.goal in
-    let said = in_force (halt g) lines in
-    let plan = c.in-Settled-default-Some.plan in
-    let desk = c.in-Settled-default-Some.desk in
-    let answer = ending.Settled plan (Some desk) in
-    let ends = rw c.in-Settled-default-Some.field-1-is at (c.in-Settled-default-Some.ensures.ends g lines has_lines.stands has_lines.few) in
-    let settled = told_end (end_of g lines) Ended.Settled g said answer ends refl in
-    let shown = subst (λ (e : Ended). IsEnding e g said answer) settled ends in
-    let holds = subst (λ (s : Setting). HoldsPairs s (run_pairs said) desk.now.pairs) (sym shown.0) shown.1.1.pairs in
-    both c.assigned.result c.assigned.ensures.status (c.assigned.ensures.text (run_pairs said) holds)
-    (λ answer status text. assigned_answer g lines answer.status answer.text.items plan.now has_lines.looked settled shown.0 shown.1.0 status text)
+pub returns : goal.returns
+returns c = λ lines has.
+    ended_answer c.args.goal lines c.in_ok-end.field-0.end c.status_of.result c.in_ok-end.field-0.text.items has.looked (c.in_ok-end.ensures lines has.taken.stands has.few) c.status_of.ensures

@@ -1,7 +1,7 @@
-use Rattle.std.proofs.Common.{ℕ, take, Err, refl, sym, ap, ◌∙◌, subst}
+use Rattle.std.proofs.Common.{ℕ, take, Err, refl, sym, ap, ◌∙◌, subst, inl}
 use Rattle.house_base.specs.Text.{Text}
 use Rattle.house_io.specs.Sink.{AppendsWhereTold}
-use Rattle.input_run.specs.declared.input.InputFault.{InputFault}
+use Rattle.input_run.specs.declared.fault.InputFault.{InputFault}
 use Rattle.house_top.specs.declared.status.Status.TheVariants as status
 use Rattle.house_top.specs.Answer.{status_of_answer}
 use Rattle.house_top.specs.Given.{given_by}
@@ -123,7 +123,7 @@ returns-in-Ok-clause-ends g c =
     let files = g.F.Files.contents c.args.files.now in
     let given = given_by said left files in
     let some = sym c.form_of.ensures ∙ c.in-Some.is in
-    write_fault_ends asked c.in-Some.form given left _ some c.in-Err.ensures.failed
+    write_fault_ends asked c.in-Some.form given left _ some (inl c.in-Err.ensures.failed)
 
 pub returns-in-Ok-clause-writes : goal.returns-in-Ok-clause-writes
 returns-in-Ok-clause-writes g c =

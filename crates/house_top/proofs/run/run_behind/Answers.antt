@@ -1,5 +1,5 @@
 use Rattle.std.proofs.Common.{◌≡◌}
-use Rattle.input_run.specs.declared.input.InputFault.TheVariants as fault
+use Rattle.input_run.specs.declared.fault.InputFault.TheVariants as fault
 use Rattle.house_top.proofs.AnswerLemmas.{input_answer, some_lines}
 use Rattle.house_top.proofs.ReadLemmas.{reads_answer, reads_fault}
 use Rattle.house_top.proofs.run.run_behind.Goals as goal

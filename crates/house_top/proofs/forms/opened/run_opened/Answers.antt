@@ -1,6 +1,6 @@
 use Rattle.std.proofs.Common.{◌∷◌, []}
 use Rattle.house_top.specs.declared.status.Status.TheVariants as status
-use Rattle.input_run.specs.declared.input.InputFault.TheVariants as fault
+use Rattle.input_run.specs.declared.fault.InputFault.TheVariants as fault
 use Rattle.house_top.proofs.FormLemmas.{all_answers, bad_answer_caused, fault_caused, fault_reads, few_lines, kept, lines_caused, lines_reads, long_answer_caused, opens_bad, opens_lines, opens_long, refused_answer_reads, refused_answers}
 use Rattle.house_top.proofs.forms.opened.run_opened.Goals as goal
 
@@ -70,7 +70,7 @@ returns-in-Ok-clause-answer g c =
 
 pub returns-in-Ok-clause-caused : goal.returns-in-Ok-clause-caused
 returns-in-Ok-clause-caused g c =
-    bad_answer_caused c.in-Ok.answer.status c.in-Ok-Bad.why _ _ _ _ c.in-Ok.ensures.status
+    bad_answer_caused c.in-Ok.answer.status c.in-Ok-Bad.field-0 c.in-Ok-Bad.why _ _ _ _ c.in-Ok.ensures.status c.in-Ok-Bad.field-0-is c.in-Ok-Bad.ensures.bad
 
 pub returns-in-Ok-clause-reads : goal.returns-in-Ok-clause-reads
 returns-in-Ok-clause-reads g c =

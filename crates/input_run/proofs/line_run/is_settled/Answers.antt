@@ -3,7 +3,7 @@ use Rattle.house_model.specs.Ending.{in_force}
 use Rattle.house_model.specs.Reviews.{is_before_assignment}
 use Rattle.house_model.specs.Runs.{halt}
 use Rattle.input_run.proofs.HearLemmas.{settled_by_phase}
-use Rattle.input_run.proofs.hearing.is_settled.Goals as goal
+use Rattle.input_run.proofs.line_run.is_settled.Goals as goal
 
 pub returns-then-settles : goal.returns-then-settles
 returns-then-settles c = λ lines stands.

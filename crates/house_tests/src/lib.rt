@@ -7,6 +7,8 @@ mod adapters;
 #[cfg(test)]
 mod answers;
 #[cfg(test)]
+mod audits;
+#[cfg(test)]
 mod case;
 #[cfg(test)]
 mod faults;
@@ -18,3 +20,5 @@ mod limits;
 mod memory;
 #[cfg(test)]
 mod opened;
+#[cfg(test)]
+mod slips;

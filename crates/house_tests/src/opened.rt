@@ -5,7 +5,7 @@ use crate::inputs::FOUR_REPORT;
 use call_file::Key;
 use house_base::Reason;
 use house_io::{PlainShelf, PlainSink, PlainSource};
-use house_top::{Bad, Status, read_only};
+use house_top::{Bad, Status, is_storing, read_only};
 use std::test::Fail;
 
 const CALL: &[u8] = b"seats = 2\nclusters = 2\nreviews = 1\n";
@@ -137,6 +137,7 @@ fn open_a_call_over_files_that_tell_all(rt: HostRuntime) -> Result<(), Fail> {
         "c".to_string(alloc)?,
         "r".to_string(alloc)?,
     ]?;
+    assert!(rt; !is_storing(&words));
     let status = read_only(alloc, &words, &mut input, &mut output, &mut files);
     assert_eq!(rt; status, Status::Done);
     assert_eq!(rt; output.given(), FOUR_REPORT.as_bytes());

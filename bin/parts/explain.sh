@@ -24,6 +24,7 @@ is_form() {
     case $#:${1-} in
         1:run | 1:feasible | 1:pairs) ;;
         3:run) [ -n "$2" ] && [ -n "$3" ] ;;
+        2:audit | 2:check) [ -n "$2" ] ;;
         *) return 1 ;;
     esac
 }
@@ -43,17 +44,39 @@ are_words() {
                 say "\`$1\` takes no further words; the file goes to standard input: bin/house $1 < FILE"
             fi
             ;;
+        audit)
+            if [ $# = 2 ]; then
+                say "the name of a file is empty: bin/house audit AUDIT < FILE"
+            elif [ $# = 1 ]; then
+                say "the name of the file is missing into which the audit goes: bin/house audit AUDIT < FILE"
+            else
+                say "\`audit\` stores one file, and the input goes to standard input: bin/house audit AUDIT < FILE"
+            fi
+            ;;
+        check)
+            if [ $# = 2 ]; then
+                say "the name of a file is empty: bin/house check FILE"
+            elif [ $# = 1 ]; then
+                say "the name of the slip is missing, which is no input: bin/house check FILE"
+            else
+                say "\`check\` takes one slip at a time: bin/house check FILE"
+            fi
+            ;;
         '') say "a word is missing: bin/house help lists them" ;;
         *)
             low=$(printf '%s' "$1" | LC_ALL=C tr 'A-Z' 'a-z')
             if [ -n "$(help_on_form "$low")" ]; then
-                say "words are written in small letters: bin/house $low < FILE"
+                case $low in
+                    audit) say "words are written in small letters: bin/house audit AUDIT < FILE" ;;
+                    check) say "words are written in small letters: bin/house check FILE" ;;
+                    *) say "words are written in small letters: bin/house $low < FILE" ;;
+                esac
             elif [ -f "$1" ]; then
                 say "a word is missing before the file: bin/house run < $(quoted "$1")"
             elif [ -n "$(meaning "$1")$(set_aside "$1")$(help_on_text "$1")" ]; then
                 say "$1 is a word of the answers: bin/house help $1 says what it means"
             else
-                say "$(quoted "$1") is no word of the program; there are run, feasible and pairs: bin/house help"
+                say "$(quoted "$1") is no word of the program; there are run, feasible, pairs, audit and check: bin/house help"
             fi
             ;;
     esac
@@ -260,6 +283,15 @@ show_bad_file() {
             say "record $number of $(quoted "$3"), the header counted, is not of its form: $(record_of "$number" "$3")"
             say "here: ${off:-a record has as many fields as the header, each of the form that docs/formats.md says}"
             ;;
+        'bad slip '*)
+            number=${answer#bad slip }
+            line=$(sed -n "${number}p" "$2" 2>/dev/null | cut -c 1-300 | LC_ALL=C tr '\1-\10\13-\37\177' '?')
+            if [ -n "$line" ]; then
+                say "line $number of $(quoted "$2") is off the form of a slip, or may not stand there: $line"
+            else
+                say "$(quoted "$2") has no line $number that a slip has to have there, or it is empty"
+            fi
+            ;;
         *) say "the call file or the register is not of its form; bin/house help bad" ;;
     esac
 }
@@ -268,12 +300,14 @@ show_bad_file() {
 explain() {
     and_files=
     or_a_file=
+    or_the_audit=
+    [ "${2-}" != audit ] || or_the_audit=", or it was and the audit could not be stored"
     [ "${2-}" != files ] || { and_files=" or a file"; or_a_file=", or a file has more than 16,777,216 bytes"; }
     case $1 in
         1) say "these words are none of the program's; bin/house help lists them" ;;
         3) say "no valid assignment exists; docs/running-a-call.md says how to read this shortage" ;;
         4) say "the input$and_files could not be read, so nothing was written; see the file or the command before the pipe" ;;
-        5) say "the output could not be written whole; see the disk, or the command behind the pipe" ;;
+        5) say "the output could not be written whole$or_the_audit; see the disk, or the command behind the pipe" ;;
         6) say "there was not enough memory, so nothing was written" ;;
         8) say "the input has more than 16,777,216 bytes or 1,048,576 lines$or_a_file" ;;
         129 | 1[3-5][0-9]) say "the program was ended by the signal $(($1 - 128))" ;;

@@ -10,6 +10,8 @@ house reads a command file on standard input and writes its answer to standard o
                                  behind the opening
     bin/house feasible < FILE    says whether the call has a valid assignment
     bin/house pairs < FILE       writes the assignment, a line for each pair
+    bin/house audit AUDIT < FILE writes the report as `run` does, and then the audit of the run into the file AUDIT
+    bin/house check FILE         says whether the chance that a slip prints is the right one
     bin/house help [WORD]        this page, or what a word means: one of the above, a reason, a kind of review lines
                                  that are set aside, a text such as `short`; `reasons`, `kinds` and `status` list them
     bin/house version            the commit and the toolchain
@@ -25,17 +27,20 @@ TEXT
 statuses() {
     cat <<'TEXT'
 Exit status, and what is written:
-     0  done                                  the report, `feasible`, or the pairs
+     0  done                                  the report, `feasible`, the pairs, or `slip yes`
      1  the words are none of the above       nothing
      2  a line of the input, or its end, is
         refused                               `refused LINE REASON`
      3  no valid assignment exists            the shortage, in three lines
      4  the input or a file could not be
         read                                  nothing
-     5  the output could not be written       the front of what was due
+     5  the output could not be written       the front of what was due; with `audit` also where the audit could not
+                                              be stored: then the whole report
      6  there was not enough memory           nothing
      8  the input or a file is too long       `too-long`
-     9  a file is not of its form             `bad toml`, `bad key KEY` or `bad record R`
+     9  a file is not of its form             `bad toml`, `bad key KEY`, `bad record R` or
+                                              `bad slip LINE`
+    10  a slip prints a wrong chance          `wrong W/D`, the right one
     70  the program could not be built        nothing; only this script ends so
 TEXT
 }
@@ -117,6 +122,21 @@ reviews APPLICANT. Without `pair` lines in FILE it is computed. Lines behind `as
 writes can be put before `assign` and gives the same assignment again.
 TEXT
             ;;
+        audit) cat <<'TEXT'
+house audit AUDIT < FILE
+Does as `run`. Where that is done, and the report is written, it stores the audit of the run as AUDIT, in the place of
+what was there: a row for each line of FILE, with what became of it, chained by digests, and the report. With any other
+answer no file is changed, but that where the audit cannot be stored (exit status 5) AUDIT may hold anything. Who has an
+audit has every review in clear.
+TEXT
+            ;;
+        check) cat <<'TEXT'
+house check FILE
+Reads no input. Says of the slip FILE, by its own lines, whether the chance that it prints is the right one: `slip yes`,
+or `wrong W/D` with the right one and exit status 10. Whether its ballots are those that were handed in, a slip does
+not tell: docs/checking.md says what to hold them against.
+TEXT
+            ;;
     esac
 }
 
@@ -141,10 +161,17 @@ file or a register has more than 16,777,216 bytes.
 TEXT
             ;;
         bad) cat <<'TEXT'
-bad toml, bad key KEY, bad record R
+bad toml, bad key KEY, bad record R, bad slip LINE
 The call file is no TOML document; what it has under KEY, or lacks there, is not as it has to be (`other` is any key
 without a meaning); the record R of the register is not of its form. Records are counted from 1, the header among them,
-blank lines not, and a quoted field may go over several lines. docs/formats.md, "The call file and the register"
+blank lines not, and a quoted field may go over several lines. docs/formats.md, "The call file and the register". Of a
+slip LINE is the first line off its form, from 1, or one more than it has where no member is there; "Slips" there.
+TEXT
+            ;;
+        slip | wrong) cat <<'TEXT'
+slip yes
+wrong W/D
+The chance that the slip prints is the right one by the slip's own lines; or it is another, and W of D draws is right.
 TEXT
             ;;
         aside) cat <<'TEXT'
@@ -157,8 +184,8 @@ TEXT
 
 help_on() {
     case $1 in
-        run | feasible | pairs) help_on_form "$1" ;;
-        refused | short | too-long | aside | bad) help_on_text "$1" ;;
+        run | feasible | pairs | audit | check) help_on_form "$1" ;;
+        refused | short | too-long | aside | bad | slip | wrong) help_on_text "$1" ;;
         reason | reasons) reasons ;;
         kind | kinds) kinds ;;
         status | statuses) statuses ;;

@@ -42,7 +42,7 @@ item_of_line e f =
     let points = ap (λ ws. number (option_map_or (λ x. x) (slice_get ws 4) [])) w ∙ number_back e.1.1 (omega (arith, f.points)) in
     λ i. ((reviewer i, proposal i), (revision i, points i))
 
-spaced : (w rest : Text) → HasNo 10 w → HasNo 10 rest → HasNo 10 (w ++ 32 ∷ rest)
+pub spaced : (w rest : Text) → HasNo 10 w → HasNo 10 rest → HasNo 10 (w ++ 32 ∷ rest)
 spaced w rest a b = All-append (λ c. eqb c 10 ≡ false) w (32 ∷ rest) a (All-cons (λ c. eqb c 10 ≡ false) 32 rest refl b)
 
 -- a line has no line feed before its end

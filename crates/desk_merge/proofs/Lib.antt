@@ -2,6 +2,7 @@ pub mod HeldLemmas
 pub mod JoinLemmas
 pub mod MergeLemmas
 pub mod OrderLemmas
+pub mod PutLemmas
 pub mod ReadLemmas
 pub mod ScanLemmas
 pub mod SortedLemmas

@@ -7,7 +7,7 @@ use Rattle.std.specs.Str.{all_ascii_digits}
 use Rattle.std.proofs.lemmas.Bool.{and_parts, cases_Bool, eqb-true, le-leb, true≢false}
 use Rattle.std.proofs.lemmas.Bool.Decides.{nat_tests}
 use Rattle.std.proofs.lemmas.Fmt.{digits_decimal, digits_value-decimal}
-use Rattle.std.proofs.lemmas.List.{append_cancel_left, get_or-take, take-append-drop}
+use Rattle.std.proofs.lemmas.List.{append-nil, append_cancel_left, get_or-take, take-append-drop}
 use Rattle.std.proofs.Math.Seq.{get_or-append_seam}
 use Rattle.std.proofs.lemmas.List.Elements.{All-from_get_or, All-weaker}
 use Rattle.std.proofs.lemmas.List.Quantifiers.{position-Some}
@@ -130,3 +130,15 @@ line_found text a b c e rest begins first second behind =
     ∙ ap (λ w. key_then e.0.0 w c) (sym second)
     ∙ ap (key_then e.0.0 e.0.1) behind
     ∙ sym (line_then e rest)
+
+pub whole_line : (line : Text) (e : Item) → line ≡ entry_line e → line ≡ entry_line e ++ []
+whole_line line e is = is ∙ sym (append-nil (entry_line e))
+
+-- what stands behind the revision
+pub behind_revision : (text word behind : Text) (e : Item) → IsItem e → text ≡ review_then e.1.0 e.1.1 [] → text ≡ word ++ 32 ∷ behind → HasNo 32 word → behind ≡ decimal e.1.1 ++ 10 ∷ []
+behind_revision text word behind e formed is found free =
+    (cut_once 32 word (decimal e.1.0) behind (decimal e.1.1 ++ 10 ∷ []) free (number_free 32 e.1.0 refl formed.revision) (sym found ∙ is)).1
+
+pub points_before_feed : (text word behind : Text) (e : Item) → IsItem e → text ≡ decimal e.1.1 ++ 10 ∷ [] → text ≡ word ++ 10 ∷ behind → HasNo 10 word → word ≡ decimal e.1.1
+points_before_feed text word behind e formed is found free =
+    (cut_once 10 word (decimal e.1.1) behind [] free (number_free 10 e.1.1 refl (omega (arith, formed.points))) (sym found ∙ is)).0

@@ -4,3 +4,4 @@ pub mod Entry
 pub mod Held
 pub mod Scan
 pub mod Merge
+pub mod Put

@@ -1,7 +1,8 @@
 //! The reviews of a desk, held as the text of their desk file.
 
 use crate::entry::Entry;
-use crate::scan::{first_entry, first_key};
+use crate::review_text::ReviewText;
+use crate::scan::{entry_words, first_entry, first_key};
 use house_base::{Memory, Name};
 use std::alloc::Global;
 use std::cmp::Ordering;
@@ -36,6 +37,8 @@ impl Entries {
     ghost use Rattle.desk_merge.specs.Entry.{item_of};
     ghost use Rattle.desk_merge.specs.Held.{item_at};
     ghost use Rattle.desk_merge.specs.Joined.{key_cmp};
+    ghost use Rattle.desk_merge.specs.Put.{review_lines};
+    ghost use Rattle.command_text.specs.Held.{HasNoFeed};
 
     /// No reviews.
     pub fn new(alloc: Global) -> Entries
@@ -112,6 +115,19 @@ impl Entries {
     {
         match first_key(self.line(index)) {
             Some((reviewer, proposal, _)) => (reviewer, proposal),
+            None => unreachable!(),
+        }
+    }
+
+    /// The review line at an index, in the same order.
+    pub fn review_text(&self, index: u64) -> ReviewText
+        requires { index < map.len self.now }
+        ensures value { slice_get (review_lines self.now) index ≡ Some result }
+        ensures no_line_feed { HasNoFeed result }
+    {
+        let line = self.line(index);
+        match entry_words(line) {
+            Some((reviewer, proposal, points)) => ReviewText::of(reviewer, proposal, points),
             None => unreachable!(),
         }
     }

@@ -1,10 +1,17 @@
 //! What follows from the definitions that the contracts cite. Each function states it, and does nothing.
 
-ghost use Rattle.std.specs.Prelude.{◌≡◌, ◌↔◌, ◌++◌, ◌∷◌, [], ℕ, List, Option, Result, Ok, None, Contains};
+ghost use Rattle.std.specs.Prelude.{◌≡◌, ◌↔◌, ◌++◌, ◌∷◌, [], ℕ, List, Option, Result, Ok, None, Contains, true, false};
 ghost use Rattle.std.specs.FinMap.{empty, entries};
+ghost use Rattle.std.specs.List.{list_any};
 ghost use Rattle.house_base.specs.Text.{Text};
-ghost use Rattle.desk_merge.specs.Desk.{AreItems, Reads, desk_file};
-ghost use Rattle.desk_merge.specs.Joined.{IsJoin, Joined, Review, better, join, join_of};
+ghost use Rattle.peer_selection.specs.Lottery.{chance};
+ghost use Rattle.house_model.specs.Isolation.{GiveAssignment, IsApplicantOf, without};
+ghost use Rattle.house_model.specs.Reviews.{profile};
+ghost use Rattle.house_model.specs.Text.{Lines, words};
+ghost use Rattle.house_model.specs.Verbs.{is_review};
+ghost use Rattle.desk_merge.specs.Desk.{AreItems, IsItem, Reads, desk_file};
+ghost use Rattle.desk_merge.specs.Joined.{IsJoin, Item, Joined, Review, better, join, join_of};
+ghost use Rattle.desk_merge.specs.Put.{is_close, put_in, review_line, review_lines, review_words, without_reviewer};
 
 /// The better of two reviews, either of which may be missing, is the greatest of an order.
 pub fn reviews_have_an_order()
@@ -46,4 +53,30 @@ pub fn desk_files_read_back()
     ensures back { (m : Joined) → AreItems (entries m) → Reads (desk_file m) (Ok m) }
     ensures file { (bytes : Text) (m : Joined) → Reads bytes (Ok m) → bytes ≡ desk_file m }
     ensures one_way { (bytes : Text) (a b : Result Joined ℕ) → Reads bytes a → Reads bytes b → a ≡ b }
+{}
+
+/// Where the reviews of a map stand: nowhere where no line is a close, else in front of the first one; and what comes behind
+/// that changes nothing.
+pub fn reviews_stand_in_front_of_the_first_close()
+    ensures none { (lines : Lines) (m : Joined) → list_any is_close lines ≡ false → put_in lines m ≡ lines }
+    ensures first { (before : Lines) (line : Text) (rest : Lines) (m : Joined) → list_any is_close before ≡ false
+        → is_close line ≡ true → put_in (before ++ line ∷ rest) m ≡ before ++ (review_lines m ++ line ∷ rest) }
+    ensures behind { (lines : Lines) (line : Text) (m : Joined) → list_any is_close lines ≡ true
+        → put_in (lines ++ line ∷ []) m ≡ put_in lines m ++ line ∷ [] }
+{}
+
+/// The lines that are put in are review lines, each with the words of its item.
+pub fn lines_put_in_are_reviews()
+    ensures review { (e : Item) → IsItem e → is_review (review_line e) ≡ true }
+    ensures words { (e : Item) → IsItem e → words (review_line e) ≡ review_words e }
+{}
+
+/// To take out what one person wrote is to take it out of the lines and out of the map, before one is put into the other. So
+/// the chance of each applicant of the person is what it is without both.
+pub fn entries_of_one_person()
+    ensures lines { (name : Text) (lines : Lines) (m : Joined) → AreItems (entries m)
+        → without name (put_in lines m) ≡ put_in (without name lines) (without_reviewer name m) }
+    ensures chance { (name : Text) (lines : Lines) (m : Joined) (p : ℕ) → AreItems (entries m)
+        → GiveAssignment (put_in lines m) → IsApplicantOf name (put_in lines m) p
+        → chance (profile (put_in (without name lines) (without_reviewer name m))) p ≡ chance (profile (put_in lines m)) p }
 {}

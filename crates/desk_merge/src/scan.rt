@@ -43,6 +43,24 @@ pub(crate) fn first_entry(text: &[u8]) -> Option<(Entry, &[u8])>
     ))
 }
 
+/// The reviewer, the proposal and the points of the line that a text is, as its words. None where it is none.
+pub(crate) fn entry_words(line: &[u8]) -> Option<(&[u8], &[u8], &[u8])>
+    ensures found { (e : Item) → IsItem e → line.now ≡ entry_line e → IfSome result (λ words.
+        (words.0.now ≡ e.0.0) × (words.1.now ≡ e.0.1) × (words.2.now ≡ decimal e.1.1)) }
+    ensures none { IfNone result ((e : Item) → IsItem e → line.now ≡ entry_line e → ⊥) }
+{
+    let Some((reviewer, proposal, rest)) = first_key(line) else {
+        return None;
+    };
+    let Some((_revision, rest)) = cut_at(rest, b' ') else {
+        return None;
+    };
+    let Some((points, _behind)) = cut_at(rest, b'\n') else {
+        return None;
+    };
+    Some((reviewer, proposal, points))
+}
+
 /// The two words behind `entry`, and what stands behind them. None where a text does not begin so.
 pub(crate) fn first_key(text: &[u8]) -> Option<(&[u8], &[u8], &[u8])>
     ensures found { IfSome result (λ cut. text.now ≡ key_then cut.0.now cut.1.now cut.2.now) }

@@ -1,7 +1,8 @@
 //! Desk files beside what they are read as.
 
-use crate::{DeskFault, Entries};
-use house_base::{Memory, Name};
+use crate::{DeskFault, Entries, put};
+use command_text::cut;
+use house_base::Name;
 use std::alloc::Global;
 use std::test::Fail;
 
@@ -48,6 +49,28 @@ fn desk_files_are_read(rt: HostRuntime) -> Result<(), Fail> {
     Ok(())
 }
 
+#[test]
+fn reviews_are_looked_up(rt: HostRuntime) -> Result<(), Fail> {
+    let text = b"entry a c 3 1\nentry b c 2 100\nentry b d 1 3\nentry c a 0 0\nentry d a 7 7\n";
+    let entries = Entries::read(rt.alloc(), text).ok().ok_or("no memory")?;
+    assert_eq!(rt; entries.count(), 5);
+    for (reviewer, proposal, wanted) in [
+        ("a", "c", Some((3, 1))),
+        ("b", "c", Some((2, 100))),
+        ("b", "d", Some((1, 3))),
+        ("c", "a", Some((0, 0))),
+        ("d", "a", Some((7, 7))),
+        ("a", "a", None),
+        ("b", "cc", None),
+        ("e", "a", None),
+    ] {
+        let reviewer = Name::read(reviewer.as_bytes()).ok_or("no name")?;
+        let proposal = Name::read(proposal.as_bytes()).ok_or("no name")?;
+        assert_eq!(rt; entries.get(reviewer, proposal), wanted);
+    }
+    Ok(())
+}
+
 /// What the join of two texts writes.
 fn joined(alloc: Global, one: &[u8], other: &[u8]) -> Result<Vec<u8>, DeskFault> {
     let one = Entries::read(alloc, one)?;
@@ -83,6 +106,34 @@ fn desk_files_are_joined(rt: HostRuntime) -> Result<(), Fail> {
             .ok()
             .ok_or("no memory")?;
         assert!(rt; out.as_slice() == wanted.as_bytes());
+    }
+    Ok(())
+}
+
+#[test]
+fn reviews_are_put_in_front_of_the_first_close(rt: HostRuntime) -> Result<(), Fail> {
+    let entries = Entries::read(rt.alloc(), b"entry b c 2 100\nentry b d 1 3\n")
+        .ok()
+        .ok_or("no memory")?;
+    for (before, after) in [
+        ("", ""),
+        ("assign\ndraw 1\n", "assign\ndraw 1\n"),
+        (
+            "assign\n close now\nclose\n",
+            "assign\nreview b c 100\nreview b d 3\n close now\nclose\n",
+        ),
+        (
+            "closed\nclose\n# close\n",
+            "closed\nreview b c 100\nreview b d 3\nclose\n# close\n",
+        ),
+    ] {
+        let lines = cut(rt.alloc(), before.as_bytes())?;
+        let wanted = cut(rt.alloc(), after.as_bytes())?;
+        let all = put(rt.alloc(), &lines, &entries)?;
+        assert_eq!(rt; all.count(), wanted.count());
+        for index in 0..all.count().min(wanted.count()) {
+            assert!(rt; all.line(index) == wanted.line(index));
+        }
     }
     Ok(())
 }

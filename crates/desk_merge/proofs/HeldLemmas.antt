@@ -17,7 +17,7 @@ use Rattle.house_model.specs.Text.{word, words}
 use Rattle.command_text.proofs.JoinedLemmas.{word_of_name, word_of_number, words_of_joined}
 use Rattle.command_text.proofs.NumberLemmas.{number_is}
 use Rattle.desk_merge.specs.Desk.{AreItems, CanFollow, IsItem, desk_text, entry_line, entry_words}
-use Rattle.desk_merge.specs.Held.{AreHeld, item_at, item_in, items_in, joined_in, line_ends}
+use Rattle.desk_merge.specs.Held.{AreHeld, item_at, item_in, item_on, items_in, joined_in, line_ends}
 use Rattle.desk_merge.specs.Joined.{Item, Joined, key_cmp}
 use Rattle.desk_merge.specs.Scan.{HasNo}
 use Rattle.desk_merge.proofs.OrderLemmas.{so}
@@ -56,6 +56,16 @@ line_free e f =
 pub line_and_behind : (e : Item) (more : Text) → entry_line e ++ more ≡ join_with_byte 32 (entry_words e) ++ 10 ∷ more
 unfolding entry_line line_of
 line_and_behind e more = append_assoc (join_with_byte 32 (entry_words e)) (10 ∷ []) more
+
+before_feed : (t : Text) → take (length (t ++ 10 ∷ []) - 1) (t ++ 10 ∷ []) ≡ t
+before_feed t =
+    let size : length (t ++ 10 ∷ []) - 1 ≡ length t = omega (arith, length-append t (10 ∷ [])) in
+    ap (λ n. take n (t ++ 10 ∷ [])) size ∙ take-append_seam t (10 ∷ [])
+
+-- the line of an item says the item
+pub item_on_line : (line : Text) (e : Item) → IsItem e → line ≡ entry_line e → item_on line ≡ e
+unfolding entry_line line_of
+item_on_line line e f is = ap item_on is ∙ ap item_in (before_feed (join_with_byte 32 (entry_words e))) ∙ item_of_line e f
 
 -- The items that a text says.
 

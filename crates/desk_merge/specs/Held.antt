@@ -1,5 +1,5 @@
 -- How the reviews are held: as the text of their desk file, with the place at which each line ends.
-use Rattle.std.specs.Prelude.{◌≡◌, ℕ, ◌+◌, List, [], ◌∷◌, IsTrue, length, map, slice_index_or, ◌==◌}
+use Rattle.std.specs.Prelude.{◌≡◌, ℕ, ◌+◌, ◌-◌, List, [], ◌∷◌, IsTrue, length, map, slice_index_or, take, ◌==◌}
 use Rattle.std.specs.FinMap.{entries, from_sorted, is_sorted}
 use Rattle.std.specs.List.{slice_split}
 use Rattle.house_base.specs.Text.{Text}
@@ -12,6 +12,10 @@ use Rattle.desk_merge.specs.Joined.{Item, Joined, key_cmp}
 -- what the words of a line say
 unfoldable pub item_in : Text → Item
 item_in line = ((word line 1, word line 2), (number (word line 3), number (word line 4)))
+
+-- what a line with its line feed says
+abbrev pub item_on : Text → Item
+item_on line = item_in (take (length line - 1) line)
 
 -- what the lines of a text say
 unfoldable pub items_in : Text → List Item

@@ -35,7 +35,7 @@ impl Entries {
     ghost use Rattle.std.specs.FinMap as map;
     ghost use Rattle.desk_merge.specs.Desk.{AreItems, CanFollow, IsItem, desk_file, entry_line};
     ghost use Rattle.desk_merge.specs.Entry.{item_of};
-    ghost use Rattle.desk_merge.specs.Held.{item_at};
+    ghost use Rattle.desk_merge.specs.Held.{item_at, item_on};
     ghost use Rattle.desk_merge.specs.Joined.{key_cmp};
     ghost use Rattle.desk_merge.specs.Put.{review_lines};
     ghost use Rattle.command_text.specs.Held.{HasNoFeed};
@@ -165,11 +165,11 @@ impl Entries {
     }
 
     /// Appends the line of a review that comes behind all that there are. After an error they are as before.
-    pub(crate) fn push(&mut self, line: &[u8], entry: &Entry) -> Result<(), Memory>
-        requires line { line.now ≡ entry_line (item_of entry.now) }
-        requires formed { IsItem (item_of entry.now) }
-        requires behind { CanFollow (map.entries self.old) (item_of entry.now) }
-        ensures ok { OnOk result (map.entries self.new ≡ map.entries self.old ++ item_of entry.now ∷ []) }
+    pub(crate) fn push(&mut self, line: &[u8]) -> Result<(), Memory>
+        requires line { line.now ≡ entry_line (item_on line.now) }
+        requires formed { IsItem (item_on line.now) }
+        requires behind { CanFollow (map.entries self.old) (item_on line.now) }
+        ensures ok { OnOk result (map.entries self.new ≡ map.entries self.old ++ item_on line.now ∷ []) }
         ensures err { OnErr result (self.new ≡ self.old) }
     {
         self.ends.reserve(1)?;

@@ -58,7 +58,7 @@ impl Entries {
         requires behind { CanFollow (map.entries self.old) (item_at others.now index) }
         ensures { OnOk result (map.entries self.new ≡ map.entries self.old ++ item_at others.now index ∷ []) }
     {
-        self.push(others.line(index), &others.entry(index))
+        self.push(others.line(index))
     }
 
     /// Appends the greater of two reviews of one key, which comes behind all that there are.

@@ -25,7 +25,7 @@ impl Entries {
             if !entries.can_follow(&entry) {
                 return Err(DeskFault::BadLine(next_line(&entries)));
             }
-            entries.push(&rest[..rest.len() - behind.len()], &entry)?;
+            entries.push(&rest[..rest.len() - behind.len()])?;
             rest = behind;
         }
         Ok(entries)

@@ -1,7 +1,7 @@
 use Rattle.std.proofs.Common.{◌≡◌, ◌++◌, ◌∷◌, [], ap, ◌∙◌}
 use Rattle.std.specs.FinMap.{entries}
 use Rattle.desk_merge.specs.Desk.{desk_text}
-use Rattle.desk_merge.specs.Entry.{item_of}
+use Rattle.desk_merge.specs.Held.{item_on}
 use Rattle.desk_merge.proofs.HeldLemmas.{AreOf, ends_pushed, entries_pushed, held_pushed, seen, text_pushed}
 use Rattle.desk_merge.proofs.entries.Entries.push.Goals as goal
 
@@ -10,7 +10,7 @@ invariant_of-self-2 c =
     let m = c.args.self.now in
     let text = c.self.inside.text.items in
     let ends = c.self.inside.ends.items in
-    let e = item_of c.args.entry.now in
+    let e = item_on c.args.line.now in
     let after = c.extend_from_slice.new.self.items in
     let held : AreOf m text ends = seen m text ends c.self.invariant c.self.view_is in
     let text_is : after ≡ desk_text (entries m ++ e ∷ []) = text_pushed m text ends e c.args.line.now after held c.requires.line c.in_ok-extend_from_slice.ensures.items in
@@ -23,7 +23,7 @@ returns-clause-ok c =
     let m = c.args.self.now in
     let text = c.self.inside.text.items in
     let ends = c.self.inside.ends.items in
-    let e = item_of c.args.entry.now in
+    let e = item_on c.args.line.now in
     let after = c.extend_from_slice.new.self.items in
     let held : AreOf m text ends = seen m text ends c.self.invariant c.self.view_is in
     let text_is : after ≡ desk_text (entries m ++ e ∷ []) = text_pushed m text ends e c.args.line.now after held c.requires.line c.in_ok-extend_from_slice.ensures.items in

@@ -2,7 +2,7 @@
 
 use crate::entry::Entry;
 use crate::review_text::ReviewText;
-use crate::scan::{entry_words, first_entry, first_key};
+use crate::scan::{first_entry, first_key, key_and_points};
 use house_base::{Memory, Name};
 use std::alloc::Global;
 use std::cmp::Ordering;
@@ -126,7 +126,7 @@ impl Entries {
         ensures no_line_feed { HasNoFeed result }
     {
         let line = self.line(index);
-        match entry_words(line) {
+        match key_and_points(line) {
             Some((reviewer, proposal, points)) => ReviewText::of(reviewer, proposal, points),
             None => unreachable!(),
         }

@@ -1,7 +1,6 @@
 //! Why a desk file is not read.
 
 use house_base::Memory;
-use std::alloc::{AllocError, AllocFailed};
 
 /// Why a desk file is not read.
 #[derive(Clone, Copy, Debug, PartialEq, Eq)]

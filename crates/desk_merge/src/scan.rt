@@ -43,8 +43,8 @@ pub(crate) fn first_entry(text: &[u8]) -> Option<(Entry, &[u8])>
     ))
 }
 
-/// The reviewer, the proposal and the points of the line that a text is, as its words. None where it is none.
-pub(crate) fn entry_words(line: &[u8]) -> Option<(&[u8], &[u8], &[u8])>
+/// The words of a line for its reviewer, its proposal and its points. None where a text is no line of an item.
+pub(crate) fn key_and_points(line: &[u8]) -> Option<(&[u8], &[u8], &[u8])>
     ensures found { (e : Item) → IsItem e → line.now ≡ entry_line e → IfSome result (λ words.
         (words.0.now ≡ e.0.0) × (words.1.now ≡ e.0.1) × (words.2.now ≡ decimal e.1.1)) }
     ensures none { IfNone result ((e : Item) → IsItem e → line.now ≡ entry_line e → ⊥) }

@@ -2,7 +2,7 @@ use Rattle.std.proofs.Common.{[], ◌∷◌, ◌++◌, refl, ◌∙◌}
 use Rattle.std.specs.Prelude.{decimal}
 use Rattle.desk_merge.specs.Scan.{review_then}
 use Rattle.desk_merge.proofs.ScanLemmas.{behind_revision, line_then, name_free, points_before_feed, same_parts, whole_line}
-use Rattle.desk_merge.proofs.scan.entry_words.Goals as goal
+use Rattle.desk_merge.proofs.scan.key_and_points.Goals as goal
 
 pub returns-in_default-clause-none : goal.returns-in_default-clause-none
 returns-in_default-clause-none c =

@@ -1,4 +1,5 @@
 pub mod HeldLemmas
+pub mod ItemLemmas
 pub mod JoinLemmas
 pub mod MergeLemmas
 pub mod OrderLemmas

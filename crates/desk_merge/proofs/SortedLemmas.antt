@@ -68,7 +68,7 @@ find_other q [] d h = refl
 find_other q (e ∷ es) d h =
     ap (λ b. cond b (Some e.1) (find key_cmp q es)) (h 0 (omega arith)) ∙ find_other q es d (λ i within. h (suc i) (omega (arith, within)))
 
-find_at : (q : Key) (es : List Item) (d : Item) (i : ℕ) → is_sorted key_cmp es ≡ true → i < length es → key_cmp q (get_or es i d).0 ≡ Equal → find key_cmp q es ≡ Some (get_or es i d).1
+pub find_at : (q : Key) (es : List Item) (d : Item) (i : ℕ) → is_sorted key_cmp es ≡ true → i < length es → key_cmp q (get_or es i d).0 ≡ Equal → find key_cmp q es ≡ Some (get_or es i d).1
 find_at q [] d i h within same = absurd (omega arith)
 find_at q (e ∷ es) d zero h within same = ap (λ r. cond (is_eq r) (Some e.1) (find key_cmp q es)) same
 find_at q (e ∷ es) d (suc i) h within same =

@@ -47,6 +47,11 @@ pub fn joins_repeat()
     ensures alone { (a : Joined) → join_of (a ∷ []) ≡ a }
 {}
 
+/// The join of maps that desk files can have is such a map.
+pub fn joins_keep_the_form()
+    ensures { (a b : Joined) → AreItems (entries a) → AreItems (entries b) → AreItems (entries (join a b)) }
+{}
+
 /// The file of a map is read as the map, and bytes are read in one way: as the map whose file they are, or as off the form
 /// from one line on.
 pub fn desk_files_read_back()

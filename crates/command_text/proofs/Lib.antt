@@ -9,4 +9,5 @@ pub mod NumberLemmas
 pub mod OnceLemmas
 pub mod OneLineLemmas
 pub mod ReadBackLemmas
+pub mod StrictLemmas
 pub mod WordLemmas

@@ -3,3 +3,4 @@ pub mod Cutting
 pub mod Held
 pub mod Printing
 pub mod Reading
+pub mod Strict

@@ -68,7 +68,7 @@ pub fn first_line(text: &[u8]) -> Option<(&[u8], &[u8])>
 
 /// Where the first line feed stands. It may be near, as behind a short comment, so that a few bytes are looked at one by
 /// one before the wide search begins.
-pub(crate) fn first_line_feed(text: &[u8]) -> Option<usize>
+pub fn first_line_feed(text: &[u8]) -> Option<usize>
     ensures value { result ≡ position (λ byte. byte == 10) text.now }
     ensures none { IfNone result (HasNoFeed text.now) }
 {
@@ -91,7 +91,7 @@ fn near_line_feed(text: &[u8]) -> Option<usize>
 }
 
 /// A line without the carriage return that may end it.
-pub(crate) fn without_return(line: &[u8]) -> &[u8]
+pub fn without_return(line: &[u8]) -> &[u8]
     ensures { result.now ≡ without_return line.now }
 {
     line.strip_suffix(b"\r").unwrap_or(line)

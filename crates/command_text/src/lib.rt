@@ -11,13 +11,14 @@ pub mod lines;
 mod print;
 pub mod read;
 mod review;
+pub mod strict;
 #[cfg(test)]
 mod tests;
 mod words;
 
 pub use command::read_digest;
 pub use cutter::{Cutter, Fed};
-pub use cutting::{cut, first_line, within};
+pub use cutting::{cut, first_line, first_line_feed, within, without_return};
 pub use house_model::{Command, Verb};
 pub use line::Line;
 pub use lines::Lines;

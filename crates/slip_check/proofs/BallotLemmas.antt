@@ -15,8 +15,8 @@ use Rattle.house_model.specs.Text.{is_empty}
 use Rattle.name_index.proofs.IndexLemmas.{AllPairs-push_text}
 use Rattle.slip_check.specs.Counted.{AreCells, IsBallotOf, points_in}
 use Rattle.slip_check.specs.Form.{all_differ, are_cells, before_colon, is_ballot, is_cell}
-use Rattle.slip_check.specs.Strict.{Row, spelled_behind}
-use Rattle.slip_check.proofs.StrictLemmas.{behind_some, one_more}
+use Rattle.command_text.specs.Strict.{Row, spelled_behind}
+use Rattle.command_text.proofs.StrictLemmas.{behind_some, one_more}
 
 among-append : (xs ys : List Text) (t : Text) → among (xs ++ ys) t ≡ (among xs t || among ys t)
 unfolding among

@@ -10,7 +10,7 @@ use Rattle.house_base.specs.declared.limits.TheConstants.{DOLLAR}
 use Rattle.peer_selection.specs.Counting.{count_below}
 use Rattle.peer_selection.specs.Marks.{marks}
 use Rattle.slip_check.specs.Slip.{Slip, rank_among, score_on, scores, worth}
-use Rattle.slip_check.specs.Strict.{fed_lines, row_of}
+use Rattle.command_text.specs.Strict.{fed_lines, row_of}
 
 -- nothing was read
 pub counted_nothing : (start : Rows) → members_in start ≡ [] → ballots_in start ≡ [] → IsCount start (record { members = []; voters = []; scores = [] })

@@ -19,8 +19,8 @@ use Rattle.peer_selection.proofs.SplitLemmas.{cents-sum}
 use Rattle.slip_check.specs.Counted.{Counted, IsBallotOf, IsCount, points_in}
 use Rattle.slip_check.specs.Form.{Rows, are_cells, ballot_in, ballots_in, begins, cell_in, goes_on, is_ballot, is_member, is_on_form, may_be_member, may_vote, members_in, word_at}
 use Rattle.slip_check.specs.Slip.{Ballot, ballot_cents, score_on}
-use Rattle.slip_check.specs.Strict.{Row, row_of, spelled, spelled_behind, strict_row}
-use Rattle.slip_check.proofs.StrictLemmas.{filled, ne_eqb, one_more}
+use Rattle.command_text.specs.Strict.{Row, row_of, spelled, spelled_behind, strict_row}
+use Rattle.command_text.proofs.StrictLemmas.{filled, ne_eqb, one_more}
 use Rattle.slip_check.proofs.HeadLemmas.{by_row, follows_on, on_form_is, row_is}
 
 both : (a b : Bool) → b ≡ false → (a && b) ≡ false

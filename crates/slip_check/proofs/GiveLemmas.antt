@@ -12,7 +12,7 @@ use Rattle.house_base.proofs.AmongLemmas.{bytes_eq-same, bytes_eq-other, cases_t
 use Rattle.name_index.proofs.IndexLemmas.{among-before, is_some-position, position_push, position_at}
 use Rattle.slip_check.specs.Counted.{AreCells, cents_for, points_in}
 use Rattle.slip_check.specs.Form.{before_colon, behind_colon, is_cell}
-use Rattle.slip_check.specs.Strict.{Row}
+use Rattle.command_text.specs.Strict.{Row}
 use Rattle.slip_check.proofs.BallotLemmas.{cells_parts}
 use Rattle.house_base.specs.declared.limits.TheConstants.{MOST_OWN, MOST_POINTS, MOST_REVIEWS}
 use Rattle.house_base.specs.Name.{is_name}

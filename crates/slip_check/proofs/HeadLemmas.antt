@@ -10,8 +10,8 @@ use Rattle.house_base.specs.declared.limits.TheConstants.{DOLLAR, MOST_APPLICANT
 use Rattle.house_model.specs.Faults.{is_within}
 use Rattle.house_model.specs.Said.{number}
 use Rattle.slip_check.specs.Form.{Rows, denominator_in, follows, goes_on, is_denominator, is_head, is_on_form, is_share, is_sizes}
-use Rattle.slip_check.specs.Strict.{Row, row_of, spelled, strict_row}
-use Rattle.slip_check.proofs.StrictLemmas.{ne_eqb}
+use Rattle.command_text.specs.Strict.{Row, row_of, spelled, strict_row}
+use Rattle.command_text.proofs.StrictLemmas.{ne_eqb}
 
 -- the words of a strict line are its row
 pub row_is : (line : Text) (row : Row) → strict_row line ≡ Some row → row_of line ≡ row

@@ -15,7 +15,7 @@ use Rattle.peer_selection.proofs.CountingLemmas.{count_below-le}
 use Rattle.slip_check.specs.Form.{Rows, ballot_in, ballots_in, begins, fault_from, fault_in, is_on_form, members_in, rows_of, slip_in, word_at}
 use Rattle.slip_check.specs.Limits.{GivesSlips, IsRight, Says}
 use Rattle.slip_check.specs.Slip.{Ballot, Slip, printed_slip, slip_of, worth}
-use Rattle.slip_check.specs.Strict.{Row, fed_lines, row_of}
+use Rattle.command_text.specs.Strict.{Row, fed_lines, row_of}
 use Rattle.slip_check.proofs.LimitLemmas.{slip-within}
 use Rattle.slip_check.proofs.OpenedLemmas.{first_begins, starts, step_off}
 use Rattle.slip_check.proofs.ReadBackLemmas.{read-back}

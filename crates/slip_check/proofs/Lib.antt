@@ -17,7 +17,6 @@ pub mod PrintedLineLemmas
 pub mod PrintedRowLemmas
 pub mod PrintedWordLemmas
 pub mod ReadBackLemmas
-pub mod StrictLemmas
 pub mod WordPartLemmas
 pub mod WorthLemmas
 pub mod WriteLemmas

@@ -12,7 +12,7 @@ use Rattle.house_model.specs.Text.{is_empty}
 use Rattle.slip_check.specs.Counted.{Counted, IsCount, IsStart}
 use Rattle.slip_check.specs.Form.{Rows, ballots_in, before_slash, begins, behind_slash, chance_in, denominator_in, fault_from, fault_in, is_denominator, is_head, is_on_form, is_share, is_sizes, members_in, rows_of, slip_in, word_at}
 use Rattle.slip_check.specs.Slip.{Slip, worth}
-use Rattle.slip_check.specs.Strict.{Row, fed_lines, row_of, strict_row}
+use Rattle.command_text.specs.Strict.{Row, fed_lines, row_of, strict_row}
 use Rattle.slip_check.proofs.CheckLemmas.{rows_cons}
 use Rattle.slip_check.proofs.HeadLemmas.{follows_head, follows_sizes, off_form_unread, on_form_is, row_is}
 

@@ -15,7 +15,7 @@ use Rattle.house_base.proofs.Digits.{numerals}
 use Rattle.house_model.specs.Text.{is_empty, is_gap}
 use Rattle.command_text.specs.Held.{HasNoFeed}
 use Rattle.command_text.proofs.JoinedLemmas.{AreWords, is_word, name_parts}
-use Rattle.slip_check.specs.Strict.{Row}
+use Rattle.command_text.specs.Strict.{Row}
 
 -- whether a word has a byte, and each behind that of the space
 abbrev pub is_plain : Text → Bool

@@ -8,10 +8,10 @@ use Rattle.house_model.specs.Report.{line_of}
 use Rattle.house_model.specs.Text.{is_empty, words}
 use Rattle.command_text.proofs.JoinedLemmas.{words_of_joined}
 use Rattle.slip_check.specs.Form.{Rows, fault_from, fault_in, follows, is_on_form, members_in, rows_of}
-use Rattle.slip_check.specs.Strict.{Row, fed_lines, row_of, strict_row}
+use Rattle.command_text.specs.Strict.{Row, fed_lines, row_of, strict_row}
 use Rattle.slip_check.proofs.HeadLemmas.{on_form_is}
 use Rattle.slip_check.proofs.PlainWordLemmas.{ArePlain, feedless_line, words_of_plain}
-use Rattle.slip_check.proofs.StrictLemmas.{before_last_byte, fed_lines_at_feed, fed_lines_of_none}
+use Rattle.command_text.proofs.StrictLemmas.{before_last_byte, fed_lines_at_feed, fed_lines_of_none}
 
 -- a row whose words can stand in a line of their own
 pub record IsPrinted (row : Row) : Type 0 where

@@ -13,7 +13,7 @@ use Rattle.house_model.specs.Faults.{is_within}
 use Rattle.command_text.proofs.NumberLemmas.{within_is, within_none}
 use Rattle.command_text.proofs.WordLemmas.{after_element}
 use Rattle.slip_check.specs.Form.{before_slash, behind_slash, before_colon, behind_colon, is_cell, is_share}
-use Rattle.slip_check.proofs.StrictLemmas.{position_found, position_missing}
+use Rattle.command_text.proofs.StrictLemmas.{position_found, position_missing}
 
 -- What stands before and behind the first byte that passes.
 

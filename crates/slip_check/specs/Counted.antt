@@ -5,7 +5,7 @@ use Rattle.house_base.specs.Text.{Text}
 use Rattle.house_model.specs.Said.{number}
 use Rattle.slip_check.specs.Slip.{score_on}
 use Rattle.slip_check.specs.Form.{Rows, are_cells, ballots_in, fault_from, rows_of, before_colon, behind_colon, is_ballot, members_in, word_at}
-use Rattle.slip_check.specs.Strict.{Row, fed_lines}
+use Rattle.command_text.specs.Strict.{Row, fed_lines}
 use Rattle.std.specs.Option.{option_map_or}
 use Rattle.std.specs.Str.{bytes_eq}
 

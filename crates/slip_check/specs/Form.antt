@@ -11,7 +11,7 @@ use Rattle.house_model.specs.Faults.{is_within}
 use Rattle.house_model.specs.Said.{number}
 use Rattle.house_model.specs.Text.{Lines, is_empty}
 use Rattle.slip_check.specs.Slip.{Ballot, Cell, Slip}
-use Rattle.slip_check.specs.Strict.{Row, fed_lines, row_of, strict_row}
+use Rattle.command_text.specs.Strict.{Row, fed_lines, row_of, strict_row}
 
 -- the lines of a slip, each as its words
 abbrev pub Rows : Type 0

@@ -1,4 +1,3 @@
-pub mod Strict
 pub mod Slip
 pub mod Form
 pub mod Counted

@@ -13,7 +13,7 @@ use Rattle.peer_selection.specs.Marks.{marks}
 use Rattle.peer_selection.specs.Profile.{Profile, denominator, row}
 use Rattle.peer_selection.specs.Split.{cents_at}
 use Rattle.house_model.specs.Report.{line_of, over}
-use Rattle.slip_check.specs.Strict.{Row}
+use Rattle.command_text.specs.Strict.{Row}
 
 -- a proposal, and the points that it got
 pub record Cell : Type 0 where

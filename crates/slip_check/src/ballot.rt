@@ -4,11 +4,11 @@ ghost use Rattle.std.specs.Prelude.{◌≡◌, ◌++◌, Some, Err, true, false,
 ghost use Rattle.house_base.specs.Text.{among};
 ghost use Rattle.slip_check.specs.Counted.{AreCells, IsBallotOf};
 ghost use Rattle.slip_check.specs.Form.{are_cells, is_ballot};
-ghost use Rattle.slip_check.specs.Strict.{Row, spelled_behind};
+ghost use Rattle.command_text.specs.Strict.{Row, spelled_behind};
 
 use crate::stop::Stop;
-use crate::strict::next_word;
 use crate::word::{read_cell, read_name};
+use command_text::strict::next_word;
 use house_base::Name;
 use house_base::limits::{MOST_OWN, MOST_REVIEWS};
 use std::alloc::Global;

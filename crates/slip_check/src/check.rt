@@ -6,12 +6,12 @@ ghost use Rattle.slip_check.specs.Counted.{IsCount, IsStart};
 ghost use Rattle.slip_check.specs.Form.{Rows, chance_in, fault_from, fault_in, members_in, rows_of, slip_in};
 ghost use Rattle.slip_check.specs.Limits.{IsRight};
 ghost use Rattle.slip_check.specs.Slip.{worth};
-ghost use Rattle.slip_check.specs.Strict.{fed_lines};
+ghost use Rattle.command_text.specs.Strict.{fed_lines};
 
 use crate::count::Count;
 use crate::head::{read_head, read_sizes};
 use crate::stop::Stop;
-use crate::strict::first_fed_line;
+use command_text::strict::first_fed_line;
 use std::alloc::Global;
 
 /// What a check of a slip says.

@@ -8,12 +8,12 @@ ghost use Rattle.peer_selection.specs.Split.{cents_at};
 ghost use Rattle.slip_check.specs.Counted.{IsCount, IsCounted, cents_for};
 ghost use Rattle.slip_check.specs.Form.{Rows, ballots_in, goes_on, is_on_form, may_be_member, may_vote, members_in};
 ghost use Rattle.slip_check.specs.Slip.{Slip, goes_before, rank_among, worth};
-ghost use Rattle.slip_check.specs.Strict.{Row, row_of, spelled_behind};
+ghost use Rattle.command_text.specs.Strict.{Row, row_of, spelled_behind};
 
 use crate::ballot::{MOST_CELLS, read_ballot};
 use crate::stop::Stop;
-use crate::strict::{before_feed, first_word, last_word};
 use crate::word::{is_word, read_name};
+use command_text::strict::{before_feed, first_word, last_word};
 use dollar_split::split;
 use exact_chance::chance;
 use house_base::Name;

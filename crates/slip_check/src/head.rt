@@ -4,10 +4,10 @@ ghost use Rattle.std.specs.Prelude.{◌≡◌, ◌≤◌, true, false, length, I
 ghost use Rattle.house_base.specs.declared.limits.TheConstants.{MOST_APPLICANTS, MOST_SEATS};
 ghost use Rattle.house_model.specs.Said.{number};
 ghost use Rattle.slip_check.specs.Form.{Rows, before_slash, behind_slash, denominator_in, is_on_form, word_at};
-ghost use Rattle.slip_check.specs.Strict.{row_of};
+ghost use Rattle.command_text.specs.Strict.{row_of};
 
-use crate::strict::{before_feed, four_words};
 use crate::word::{Share, is_word, read_name, read_share, read_within};
+use command_text::strict::{before_feed, four_words};
 use house_base::Name;
 use house_base::limits::{DOLLAR, MOST_APPLICANTS, MOST_SEATS};
 

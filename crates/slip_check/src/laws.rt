@@ -15,7 +15,7 @@ ghost use Rattle.slip_check.specs.Form.{fault_in, rows_of, slip_in};
 ghost use Rattle.slip_check.specs.Limits.{GivesSlips, IsRight, IsSlip, Says};
 ghost use Rattle.slip_check.specs.Places.{AgreeAtPlaces};
 ghost use Rattle.slip_check.specs.Slip.{Slip, printed_slip, slip_of, slip_text, worth};
-ghost use Rattle.slip_check.specs.Strict.{fed_lines};
+ghost use Rattle.command_text.specs.Strict.{fed_lines};
 
 /// The slip of an applicant is worth its chance: the cents of a ballot go by the order in its line, the members' scores
 /// are what the ballots give, and the draws that reach a rank are as many wherever the cluster's stretch begins.

@@ -10,7 +10,6 @@ mod head;
 pub mod laws;
 mod persons;
 mod stop;
-mod strict;
 mod word;
 mod write;
 mod write_ballot;

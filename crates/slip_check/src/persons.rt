@@ -4,7 +4,7 @@ ghost use Rattle.std.specs.Prelude.{◌≡◌, ◌≢◌, None, IfSome};
 ghost use Rattle.slip_check.specs.Form.{fault_in, rows_of, slip_in};
 
 use crate::head::{read_head, read_sizes};
-use crate::strict::first_fed_line;
+use command_text::strict::first_fed_line;
 
 /// How many persons a call has, as a slip says. None only where the bytes are off the form of a slip.
 pub fn slip_persons(bytes: &[u8]) -> Option<u32>

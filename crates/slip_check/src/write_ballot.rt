@@ -1,6 +1,6 @@
 //! The ballots of a slip, as they are written.
 
-ghost use Rattle.std.specs.Prelude.{◌≡◌, ◌++◌, ◌∷◌, ◌<◌, Contains, OnOk};
+ghost use Rattle.std.specs.Prelude.{◌≡◌, ◌+◌, ◌%◌, ◌^◌, ◌++◌, ◌∷◌, ◌<◌, Contains, OnOk};
 ghost use Rattle.std.specs.List.{list_any};
 ghost use Rattle.house_base.specs.Grid.{cell};
 ghost use Rattle.house_base.specs.Setting.{size};
@@ -79,7 +79,7 @@ fn push_cells(
 {
     let count = plan.count();
     for distance in 0..count {
-        let place = (reviewer + 1 + distance) % count;
+        let place = place_at(reviewer, distance, count);
         if desk.grid().get(reviewer, place) {
             push_cell(
                 alloc,
@@ -90,6 +90,21 @@ fn push_cells(
         }
     }
     Ok(())
+}
+
+/// The place at a distance behind another, round so many places. A division takes longer than all else that is done there.
+fn place_at(place: u32, distance: u32, count: u32) -> u32
+    requires place { place < count }
+    requires distance { distance < count }
+    requires count { count < 2 ^ 31 }
+    ensures { result ≡ (place + 1 + distance) % count }
+{
+    let behind = place + 1 + distance;
+    if behind < count {
+        behind
+    } else {
+        behind - count
+    }
 }
 
 /// Appends a cell, with a space before it.

@@ -1,5 +1,5 @@
 use Rattle.std.proofs.Common.{◌∙◌, refl, sym, []}
-use Rattle.slip_check.specs.Strict.{row_of}
+use Rattle.command_text.specs.Strict.{row_of}
 use Rattle.slip_check.proofs.OpenedLemmas.{IsOpened, chance_is, den_is, fault_at_first, fault_at_second, fault_of_nothing, fault_without_second, opened, worth_at}
 use Rattle.slip_check.proofs.check.printed_and_right.Goals as goal
 

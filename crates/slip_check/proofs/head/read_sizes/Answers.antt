@@ -2,7 +2,7 @@ use Rattle.std.proofs.Common.{eq-eqb, ap, sym, ◌*◌, ◌∙◌}
 use Rattle.house_model.specs.Said.{number}
 use Rattle.slip_check.specs.Form.{word_at}
 use Rattle.slip_check.proofs.HeadLemmas.{four_is, off_form_unread, sizes_not_four, sizes_off1, sizes_off2, sizes_off3, sizes_off4, sizes_off5, sizes_on}
-use Rattle.slip_check.proofs.StrictLemmas.{ne_eqb}
+use Rattle.command_text.proofs.StrictLemmas.{ne_eqb}
 use Rattle.slip_check.proofs.head.read_sizes.Goals as goal
 
 pub returns-in_default-clause-none : goal.returns-in_default-clause-none

@@ -1,5 +1,5 @@
 use Rattle.std.proofs.Common.{◌≡◌, ◌∙◌, refl, sym, [], Some, None}
-use Rattle.slip_check.specs.Strict.{row_of}
+use Rattle.command_text.specs.Strict.{row_of}
 use Rattle.slip_check.proofs.OpenedLemmas.{den_is, fault_at_first, fault_at_second, fault_of_nothing, fault_without_second, opened, persons_at}
 use Rattle.slip_check.proofs.persons.slip_persons.Goals as goal
 

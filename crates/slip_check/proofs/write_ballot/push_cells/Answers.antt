@@ -19,8 +19,8 @@ loop-distance-preserved c =
     let old = c.args.out.now.items in
     let now = c.loop-distance.out.items in
     let p = (r + 1 + d) % size s in
-    let p_is : (r + 1 + d) % c.count-count.result ≡ p = ap (λ n. (r + 1 + d) % n) c.count-count.ensures.value in
-    let held : c.get.result ≡ f.pairs r p = c.get.ensures ∙ ap (λ g. cell g r ((r + 1 + d) % c.count-count.result)) c.grid.ensures ∙ ap (f.pairs r) p_is in
+    let p_is : c.place_at-place.result ≡ p = c.place_at-place.ensures ∙ ap (λ n. (r + 1 + d) % n) c.count-count.ensures.value in
+    let held : c.get.result ≡ f.pairs r p = c.get.ensures ∙ ap (λ g. cell g r c.place_at-place.result) c.grid.ensures ∙ ap (f.pairs r) p_is in
     elim c.if-get.branch [
       | then-get+in_ok-push_cell w ↦
           line_taken (spaced_cell f r) (f.pairs r) (places_to s r d) (places_to s r (d + 1)) p old now c.if-get.out.items c.loop-distance.invariant (places_to-more s r d)

@@ -2,7 +2,7 @@ use Rattle.std.proofs.Common.{◌≡◌, ◌∙◌, ◌++◌, ◌∷◌, [], ℕ
 use Rattle.std.specs.Prelude.{codes}
 use Rattle.std.proofs.lemmas.List.{take_at}
 use Rattle.slip_check.specs.Form.{goes_on}
-use Rattle.slip_check.specs.Strict.{Row, spelled_behind}
+use Rattle.command_text.specs.Strict.{Row, spelled_behind}
 use Rattle.house_base.specs.Text.{among}
 use Rattle.slip_check.specs.Counted.{Counted, IsCount}
 use Rattle.slip_check.proofs.CountLemmas.{ballot_off, ballot_off_may, ballot_some, ballot_taken, given_as, scores_most, vote_may}

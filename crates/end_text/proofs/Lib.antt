@@ -1,2 +1,4 @@
 pub mod EndLemmas
 pub mod PairLemmas
+pub mod ShortageLemmas
+pub mod TextLemmas

@@ -1,1 +1,3 @@
 pub mod End
+pub mod Shortage
+pub mod Text

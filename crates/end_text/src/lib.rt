@@ -3,6 +3,7 @@
 #![tactic(auto)]
 
 pub mod end;
+pub mod laws;
 mod text;
 
 pub use end::{EndText, RunEnd};

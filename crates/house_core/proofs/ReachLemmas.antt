@@ -18,8 +18,9 @@ use Rattle.house_model.specs.Runs.{end_of, halt, settles, through_assign}
 use Rattle.house_model.specs.Said.{has, setting}
 use Rattle.house_model.specs.Text.{Lines}
 use Rattle.house_model.specs.Verbs.{commands}
-use Rattle.review_desk.specs.Desk.{Marks}
-use Rattle.seat_quota.specs.Tally.{DeskTotals}
+use Rattle.house_base.specs.Setting.{Setting}
+use Rattle.review_desk.specs.Desk.{IsSetUp, Marks}
+use Rattle.seat_quota.specs.Tally.{DeskTotals, IsTally}
 use Rattle.house_core.specs.declared.round.Round.{Round}
 use Rattle.house_core.specs.declared.round.Stop.{Stop}
 use Rattle.house_core.specs.declared.round.Stop.TheVariants as stop
@@ -152,6 +153,20 @@ desk_says None now None g lines h says = says
 desk_says None now (Some t) g lines h says = absurd (cc)
 desk_says (Some d) now None g lines h says = absurd h
 desk_says (Some d) now (Some t) g lines h says = (says.0, desk_of lines t (now d) says.1 h)
+
+set_up_by : {R : Type 0} (desk : Option R) (now : R → Marks) (tally : Option DeskTotals) (plan s : Setting) → MatchOption desk (tally ≡ None) (λ d. IsSomeAnd tally (λ t. now d ≡ t.desk))
+    → IfSome tally (λ t. IsTally plan t) → plan ≡ s → IfSome desk (λ d. IsSetUp s (now d))
+set_up_by None now tally plan s h t e = tt
+set_up_by (Some d) now None plan s h t e = absurd h
+set_up_by (Some d) now (Some x) plan s h t e = subst (λ z. IsSetUp z (now d)) e (subst (IsSetUp plan) (sym h) t.desk)
+
+-- the desk of a round was set up from the plan that the lines give
+pub desk_set_up : {R : Type 0} (desk : Option R) (now : R → Marks) (g : Goal) (lines : Lines) (h : Standing) (round : Round) → StandsFor g lines h → IsState h.state → h.state.round ≡ Some round
+    → MatchOption desk (round.tally ≡ None) (λ d. IsSomeAnd round.tally (λ t. now d ≡ t.desk)) → IfSome desk (λ d. IsSetUp (setting (in_force (halt g) lines)) (now d))
+desk_set_up desk now g lines h round is state fixed own =
+    let held : IfSome round.tally (λ t. IsTally round.plan.value t) = rw fixed at state.tallied in
+    let said : IsRoundOf h.state.goal (in_force (halt g) lines) round = rw fixed at is.says.round in
+    set_up_by desk now round.tally round.plan.value (setting (in_force (halt g) lines)) own held said.plan
 
 pub state_here : (inside seen : Standing) → inside ≡ seen → IsState inside.state → IsState seen.state
 state_here inside seen same is = subst (λ (h : Standing). IsState h.state) same is

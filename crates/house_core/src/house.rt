@@ -13,6 +13,7 @@ ghost use Rattle.house_model.specs.Runs.{end_of, halt, settles};
 ghost use Rattle.house_model.specs.Said.{has, phase_after, setting};
 ghost use Rattle.house_model.specs.Text.{Lines, is_blank};
 ghost use Rattle.house_model.specs.Verbs.{is_review};
+ghost use Rattle.review_desk.specs.Desk.{IsSetUp};
 ghost use Rattle.house_core.specs.Ends.{EndsAs, IsEnding, IsEndingAt, last_ending, stopped_fault};
 ghost use Rattle.house_core.specs.House.{IsDeskOf, IsGoing, IsStep, StandsFor, fell_short, has_setting, is_shortage, stopped_step};
 ghost use Rattle.house_core.specs.Standing.{MayLack};
@@ -257,10 +258,12 @@ impl House {
 
     /// The points that were given, once an assignment was fixed by `assign` whose pairs are looked at.
     pub fn desk(&self) -> Option<&Desk>
-        ensures { (g : Goal) (lines : Lines) → StandsFor g lines self.now → MatchOption result
+        ensures says { (g : Goal) (lines : Lines) → StandsFor g lines self.now → MatchOption result
             ((looks_at_pairs g && has verb.Assign (in_force (halt g) lines)) ≡ false)
             (λ desk. ((looks_at_pairs g && has verb.Assign (in_force (halt g) lines)) ≡ true)
             × IsDeskOf (in_force (halt g) lines) desk.now) }
+        ensures set_up { (g : Goal) (lines : Lines) → StandsFor g lines self.now → IfSome result
+            (λ desk. IsSetUp (setting (in_force (halt g) lines)) desk.now) }
     {
         match &self.state.round {
             Some(round) => round.desk(),

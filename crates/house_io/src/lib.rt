@@ -23,6 +23,6 @@ pub use folder::FolderShelf;
 pub use map_shelf::MapShelf;
 pub use plain::{PlainSink, PlainSource};
 pub use plain_shelf::PlainShelf;
-pub use sink::Sink;
+pub use sink::{Sink, give_all};
 pub use source::Source;
 pub use text::{TextSink, TextSource};

@@ -1,6 +1,6 @@
 //! Where output goes.
 
-ghost use Rattle.std.specs.Prelude.{ℕ, ◌<◌, ◌≤◌, List, Option, length, take, IfOk, OnErr};
+ghost use Rattle.std.specs.Prelude.{ℕ, ◌<◌, ◌≤◌, List, Option, length, take, IfOk, OnOk, OnErr};
 ghost use Rattle.house_io.specs.Faults.{Rose};
 ghost use Rattle.house_io.specs.Sink.{AppendsWhereTold, SameWhereTold};
 
@@ -25,4 +25,19 @@ pub trait Sink {
         ensures untouched { OnErr result (SameWhereTold (given self.old) (given self.new)) }
         ensures failed { OnErr result (Rose (faults self.old) (faults self.new)) }
         ensures never_falls { faults self.old ≤ faults self.new };
+}
+
+/// Gives all of a text.
+pub fn give_all<O: Sink>(output: &mut O, text: &[u8]) -> Result<(), Failed>
+    ensures whole { OnOk result (AppendsWhereTold (O.given output.old) (O.given output.new) text.now) }
+    ensures front { OnErr result ((count : ℕ)
+        × AppendsWhereTold (O.given output.old) (O.given output.new) (take count text.now)) }
+    ensures failed { OnErr result (Rose (O.faults output.old) (O.faults output.new)) }
+    ensures never_falls { O.faults output.old ≤ O.faults output.new }
+{
+    let mut at = 0;
+    while at < text.len() {
+        at += output.give(&text[at..])?;
+    }
+    Ok(())
 }

@@ -5,6 +5,7 @@ pub mod MergeLemmas
 pub mod OrderLemmas
 pub mod PutLemmas
 pub mod ReadLemmas
+pub mod ReadingLemmas
 pub mod ScanLemmas
 pub mod SortedLemmas
 pub mod UniqueLemmas

@@ -5,3 +5,4 @@ pub mod Held
 pub mod Scan
 pub mod Merge
 pub mod Put
+pub mod Reading

@@ -11,6 +11,7 @@ ghost use Rattle.house_model.specs.Text.{Lines, words};
 ghost use Rattle.house_model.specs.Verbs.{is_review};
 ghost use Rattle.desk_merge.specs.Desk.{AreItems, IsItem, Reads, desk_file};
 ghost use Rattle.desk_merge.specs.Joined.{IsJoin, Item, Joined, Review, better, join, join_of};
+ghost use Rattle.desk_merge.specs.Reading.{desk_read};
 ghost use Rattle.desk_merge.specs.Put.{is_close, put_in, review_line, review_lines, review_words, without_reviewer};
 
 /// The better of two reviews, either of which may be missing, is the greatest of an order.
@@ -58,6 +59,12 @@ pub fn desk_files_read_back()
     ensures back { (m : Joined) → AreItems (entries m) → Reads (desk_file m) (Ok m) }
     ensures file { (bytes : Text) (m : Joined) → Reads bytes (Ok m) → bytes ≡ desk_file m }
     ensures one_way { (bytes : Text) (a b : Result Joined ℕ) → Reads bytes a → Reads bytes b → a ≡ b }
+{}
+
+/// What bytes are read as is a function of them.
+pub fn bytes_are_read()
+    ensures reads { (bytes : Text) → Reads bytes (desk_read bytes) }
+    ensures only { (bytes : Text) (r : Result Joined ℕ) → Reads bytes r → desk_read bytes ≡ r }
 {}
 
 /// Where the reviews of a map stand: nowhere where no line is a close, else in front of the first one; and what comes behind

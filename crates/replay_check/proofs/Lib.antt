@@ -3,3 +3,4 @@ pub mod FilledLemmas
 pub mod RerunLemmas
 pub mod RowLemmas
 pub mod VerdictLemmas
+pub mod SaidLemmas

@@ -4,3 +4,4 @@ pub mod Migrate
 pub mod Replay
 pub mod Rerun
 pub mod Rows
+pub mod Said

@@ -31,4 +31,10 @@ impl Fresh {
     {
         self.audit.as_slice()
     }
+    /// The bytes of the audit, with none of them copied.
+    pub fn into_bytes(self) -> Vec<u8>
+        ensures { result.items ≡ self }
+    {
+        self.audit
+    }
 }

@@ -1,11 +1,12 @@
 //! The second version of an audit of either.
 
-ghost use Rattle.std.specs.Prelude.{◌≡◌, ◌≢◌, ◌↔◌, ◌≤◌, IfOk, IfErr, IsOk, Err, IsAscii, length};
+ghost use Rattle.std.specs.Prelude.{◌≡◌, ◌≢◌, ◌↔◌, ◌⊎◌, ◌≤◌, IfOk, IfErr, IsOk, Err, IsAscii, length};
 ghost use Rattle.audit_chain.specs.Chain.{audit_bytes};
 ghost use Rattle.house_model.specs.declared.limits.TheConstants.{MOST_LINES};
 ghost use Rattle.audit_chain.specs.File.{lines_held};
 ghost use Rattle.replay_check.specs.Audit.{IsAudit};
 ghost use Rattle.replay_check.specs.Migrate.{DiffersFirst, IsDiffers, IsMoved, IsMovedTo, SaysMoved};
+ghost use Rattle.replay_check.specs.Said.{migration_of};
 
 use crate::check::{Checked, check};
 use crate::differ::Difference;
@@ -39,6 +40,9 @@ pub fn migrate(alloc: Global, bytes: &[u8]) -> Result<Migrated, RowFault>
     // Any other differs, and the first row that does is told.
     ensures differs { IfOk result (λ answer. IsDiffers answer ↔ ¬ IsAudit bytes.now) }
     ensures first { IfOk result (DiffersFirst bytes.now) }
+
+    // Want of memory aside, the answer is a function of the bytes.
+    ensures said { (result ≡ Err RowFault.Memory) ⊎ (result ≡ migration_of bytes.now) }
 {
     let Checked {
         lines,

@@ -1,10 +1,11 @@
 //! The replay of an audit.
 
-ghost use Rattle.std.specs.Prelude.{◌≡◌, ◌≢◌, ◌↔◌, IfOk, IfErr, IsOk, Err};
+ghost use Rattle.std.specs.Prelude.{◌≡◌, ◌≢◌, ◌↔◌, ◌⊎◌, IfOk, IfErr, IsOk, Err};
 ghost use Rattle.audit_chain.specs.File.{lines_held};
 ghost use Rattle.end_text.specs.End.{ended_as};
 ghost use Rattle.replay_check.specs.Audit.{IsAudit};
 ghost use Rattle.replay_check.specs.Replay.{DiffersFirst, IsDiffers, IsSame, SaysSame, ending_as, replayed_of};
+ghost use Rattle.replay_check.specs.Said.{replay_of};
 
 use crate::check::check;
 use crate::differ::Difference;
@@ -43,6 +44,9 @@ pub fn replay(alloc: Global, bytes: &[u8]) -> Result<Replayed, RowFault>
     // Any other differs, and the first row that does is told.
     ensures differs { IfOk result (λ answer. IsDiffers answer ↔ ¬ IsAudit bytes.now) }
     ensures first { IfOk result (DiffersFirst bytes.now) }
+
+    // Want of memory aside, the answer is a function of the bytes.
+    ensures said { (result ≡ Err RowFault.Memory) ⊎ (result ≡ replay_of bytes.now) }
 {
     let checked = check(alloc, bytes)?;
     let count = checked.lines.count();

@@ -1,12 +1,12 @@
 -- What the words ask for, and the names of files behind the first.
-use Rattle.std.proofs.Common.{◌≡◌, suc, Bool, true, false, cond, [], ◌∷◌, List, Option, Result, Some, None, String, length, slice_index_or, string_bytes, refl, sym, ap, ◌∙◌, subst, arith}
+use Rattle.std.proofs.Common.{◌≡◌, ℕ, suc, take, Bool, true, false, cond, [], ◌∷◌, List, Option, Result, Some, None, String, length, slice_index_or, string_bytes, refl, sym, ap, ◌∙◌, subst, arith}
 use Rattle.std.specs.Prelude.{All, codes, option_and_then}
 use Rattle.std.specs.Option.{option_map}
 use Rattle.std.specs.Result.{result_ok}
+use Rattle.std.proofs.lemmas.List.{length-drop}
 use Rattle.std.proofs.lemmas.List.Elements.{All-head, All-tail}
 use Rattle.house_base.specs.Text.{Text}
 use Rattle.house_model.specs.declared.goal.Goal.{Goal}
-use Rattle.house_model.specs.declared.goal.Goal.TheVariants as goal
 use Rattle.house_model.specs.Text.{Lines}
 use Rattle.house_top.specs.declared.document.Document.{Document}
 use Rattle.house_top.specs.declared.document.Document.TheVariants as document
@@ -14,40 +14,7 @@ use Rattle.house_top.specs.declared.form.Form.{Form}
 use Rattle.house_top.specs.declared.form.Form.TheVariants as form
 use Rattle.house_top.specs.declared.status.Status.{Status}
 use Rattle.house_top.specs.Due.{lines_of, opened_run}
-use Rattle.house_top.specs.Words.{are_words, form_of, loads, name_one_file, name_two_files, names_in, texts}
-
--- words of which none but the last test asks for files
-abbrev by_tests : Bool → Bool → Bool → Bool → Bool → Bool → Option Form
-by_tests run feasible pairs files audit check =
-    cond run (Some (form.Input goal.Run)) (cond feasible (Some (form.Input goal.Feasible)) (cond pairs (Some (form.Input goal.Pairs))
-    (cond files (Some form.Opened) (cond audit (Some form.Audit) (cond check (Some (form.Judged document.Slip)) None)))))
-
-opened_by_tests : (run feasible pairs files audit check : Bool) → by_tests run feasible pairs files audit check ≡ Some form.Opened → files ≡ true
-opened_by_tests true feasible pairs files audit check h = absurd (let wrong : ⊥ = cc in wrong)
-opened_by_tests false true pairs files audit check h = absurd (let wrong : ⊥ = cc in wrong)
-opened_by_tests false false true files audit check h = absurd (let wrong : ⊥ = cc in wrong)
-opened_by_tests false false false true audit check h = refl
-opened_by_tests false false false false true check h = absurd (let wrong : ⊥ = cc in wrong)
-opened_by_tests false false false false false true h = absurd (let wrong : ⊥ = cc in wrong)
-opened_by_tests false false false false false false h = absurd (let wrong : ⊥ = cc in wrong)
-
-audited_by_tests : (run feasible pairs files audit check : Bool) → by_tests run feasible pairs files audit check ≡ Some form.Audit → audit ≡ true
-audited_by_tests true feasible pairs files audit check h = absurd (let wrong : ⊥ = cc in wrong)
-audited_by_tests false true pairs files audit check h = absurd (let wrong : ⊥ = cc in wrong)
-audited_by_tests false false true files audit check h = absurd (let wrong : ⊥ = cc in wrong)
-audited_by_tests false false false true audit check h = absurd (let wrong : ⊥ = cc in wrong)
-audited_by_tests false false false false true check h = refl
-audited_by_tests false false false false false true h = absurd (let wrong : ⊥ = cc in wrong)
-audited_by_tests false false false false false false h = absurd (let wrong : ⊥ = cc in wrong)
-
-judged_by_tests : (run feasible pairs files audit check : Bool) (d : Document) → by_tests run feasible pairs files audit check ≡ Some (form.Judged d) → check ≡ true
-judged_by_tests true feasible pairs files audit check d h = absurd (let wrong : ⊥ = cc in wrong)
-judged_by_tests false true pairs files audit check d h = absurd (let wrong : ⊥ = cc in wrong)
-judged_by_tests false false true files audit check d h = absurd (let wrong : ⊥ = cc in wrong)
-judged_by_tests false false false true audit check d h = absurd (let wrong : ⊥ = cc in wrong)
-judged_by_tests false false false false true check d h = absurd (let wrong : ⊥ = cc in wrong)
-judged_by_tests false false false false false true d h = refl
-judged_by_tests false false false false false false d h = absurd (let wrong : ⊥ = cc in wrong)
+use Rattle.house_top.specs.Words.{are_words, form_of, is_stored, is_storing, loads, name_one_file, name_two_files, names_in, slip_name, texts}
 
 one_file : (word : Text) (words : List Text) → name_one_file word words ≡ true → length words ≡ 2
 one_file word [] h = absurd (let wrong : false ≡ true = h in cc)
@@ -55,43 +22,80 @@ one_file word (a ∷ []) h = absurd (let wrong : false ≡ true = h in cc)
 one_file word (a ∷ b ∷ []) h = refl
 one_file word (a ∷ b ∷ c ∷ more) h = absurd (let wrong : false ≡ true = h in cc)
 
-two_files : (words : List Text) → name_two_files (codes "run") words ≡ true → length words ≡ 3
-two_files [] h = absurd (let wrong : false ≡ true = h in cc)
-two_files (a ∷ []) h = absurd (let wrong : false ≡ true = h in cc)
-two_files (a ∷ b ∷ []) h = absurd (let wrong : false ≡ true = h in cc)
-two_files (a ∷ b ∷ c ∷ []) h = refl
-two_files (a ∷ b ∷ c ∷ d ∷ more) h = absurd (let wrong : false ≡ true = h in cc)
+two_files : (word : Text) (words : List Text) → name_two_files word words ≡ true → length words ≡ 3
+two_files word [] h = absurd (let wrong : false ≡ true = h in cc)
+two_files word (a ∷ []) h = absurd (let wrong : false ≡ true = h in cc)
+two_files word (a ∷ b ∷ []) h = absurd (let wrong : false ≡ true = h in cc)
+two_files word (a ∷ b ∷ c ∷ []) h = refl
+two_files word (a ∷ b ∷ c ∷ d ∷ more) h = absurd (let wrong : false ≡ true = h in cc)
 
--- a call file and a register are named by the second and the third of three words
-pub three_words : (words : List Text) → form_of words ≡ Some form.Opened → length words ≡ 3
-unfolding form_of
-three_words words is = two_files words (opened_by_tests (are_words words (codes "run" ∷ [])) (are_words words (codes "feasible" ∷ [])) (are_words words (codes "pairs" ∷ [])) (name_two_files (codes "run") words)
-    (name_one_file (codes "audit") words) (name_one_file (codes "check") words) is)
+-- how many words ask for a document to be judged
+abbrev count_of : Document → ℕ
+count_of document.Slip = 2
+count_of document.Audit = 2
+count_of document.OldAudit = 3
 
--- a file that is judged is named by the second of two words
-pub two_words : (words : List Text) (d : Document) → form_of words ≡ Some (form.Judged d) → length words ≡ 2
+-- words that ask for files are so many
+abbrev HasCount : ℕ → Option Form → Type 0
+HasCount n None = Unit {0}
+HasCount n (Some (form.Input g)) = Unit {0}
+HasCount n (Some form.Opened) = n ≡ 3
+HasCount n (Some form.Audit) = n ≡ 2
+HasCount n (Some (form.Slip name)) = Unit {0}
+HasCount n (Some (form.Judged d)) = n ≡ count_of d
+HasCount n (Some form.Join) = n ≡ 3
+
+by_test : (test : Bool) (n : ℕ) (asked others : Option Form) → (test ≡ true → HasCount n asked) → HasCount n others → HasCount n (cond test asked others)
+by_test true n asked others h other = h refl
+by_test false n asked others h other = other
+
+by_name : (n : ℕ) (slip : Option Text) → HasCount n (option_map form.Slip slip)
+by_name n None = tt
+by_name n (Some name) = tt
+
+words_count : (words : List Text) → HasCount (length words) (form_of words)
 unfolding form_of
-two_words words d is = one_file (codes "check") words (judged_by_tests (are_words words (codes "run" ∷ [])) (are_words words (codes "feasible" ∷ [])) (are_words words (codes "pairs" ∷ [])) (name_two_files (codes "run") words)
-    (name_one_file (codes "audit") words) (name_one_file (codes "check") words) d is)
+words_count words =
+    by_test (are_words words (codes "run" ∷ [])) (length words) _ _ (λ is. tt)
+    (by_test (are_words words (codes "feasible" ∷ [])) (length words) _ _ (λ is. tt)
+    (by_test (are_words words (codes "pairs" ∷ [])) (length words) _ _ (λ is. tt)
+    (by_test (name_two_files (codes "run") words) (length words) _ _ (two_files (codes "run") words)
+    (by_test (name_one_file (codes "audit") words) (length words) _ _ (one_file (codes "audit") words)
+    (by_test (name_one_file (codes "check") words) (length words) _ _ (one_file (codes "check") words)
+    (by_test (name_one_file (codes "replay") words) (length words) _ _ (one_file (codes "replay") words)
+    (by_test (name_two_files (codes "migrate") words) (length words) _ _ (two_files (codes "migrate") words)
+    (by_test (name_two_files (codes "join") words) (length words) _ _ (two_files (codes "join") words) (by_name (length words) (slip_name words))))))))))
 
 length_texts : {Y : Type 0} (words : List (String Y)) → length (texts words) ≡ length words
 length_texts [] = refl
 length_texts (word ∷ words) = ap (λ n. suc n) (length_texts words)
 
-pub three_strings : {Y : Type 0} (words : List (String Y)) → form_of (texts words) ≡ Some form.Opened → length words ≡ 3
-three_strings {Y} words is = sym (length_texts words) ∙ three_words (texts words) is
+strings_count : {Y : Type 0} (words : List (String Y)) (f : Form) → form_of (texts words) ≡ Some f → HasCount (length words) (Some f)
+strings_count words f is = subst (λ n. HasCount n (Some f)) (length_texts words) (subst (HasCount (length (texts words))) is (words_count (texts words)))
 
-audited_words : (words : List Text) → form_of words ≡ Some form.Audit → length words ≡ 2
-unfolding form_of
-audited_words words is = one_file (codes "audit") words (audited_by_tests (are_words words (codes "run" ∷ [])) (are_words words (codes "feasible" ∷ [])) (are_words words (codes "pairs" ∷ [])) (name_two_files (codes "run") words)
-    (name_one_file (codes "audit") words) (name_one_file (codes "check") words) is)
+-- a call file and a register are named by the second and the third of three words
+pub three_strings : {Y : Type 0} (words : List (String Y)) → form_of (texts words) ≡ Some form.Opened → length words ≡ 3
+three_strings {Y} words is = strings_count words form.Opened is
 
 -- an audit is stored under the second of two words
 pub audited_strings : {Y : Type 0} (words : List (String Y)) → form_of (texts words) ≡ Some form.Audit → length words ≡ 2
-audited_strings {Y} words is = sym (length_texts words) ∙ audited_words (texts words) is
+audited_strings {Y} words is = strings_count words form.Audit is
 
-pub two_strings : {Y : Type 0} (words : List (String Y)) (d : Document) → form_of (texts words) ≡ Some (form.Judged d) → length words ≡ 2
-two_strings {Y} words d is = sym (length_texts words) ∙ two_words (texts words) d is
+-- two audits are named by the second and the third of three words
+pub migrated_strings : {Y : Type 0} (words : List (String Y)) → form_of (texts words) ≡ Some (form.Judged document.OldAudit) → length words ≡ 3
+migrated_strings {Y} words is = strings_count words (form.Judged document.OldAudit) is
+
+count_unless_stored : (d : Document) → is_stored d ≡ false → count_of d ≡ 2
+count_unless_stored document.Slip none = refl
+count_unless_stored document.Audit none = refl
+count_unless_stored document.OldAudit none = absurd (let wrong : true ≡ false = none in cc)
+
+-- a file that is judged with nothing to be stored is named by the second of two words
+pub two_strings : {Y : Type 0} (words : List (String Y)) (d : Document) → is_stored d ≡ false → form_of (texts words) ≡ Some (form.Judged d) → length words ≡ 2
+two_strings {Y} words d none is = strings_count words (form.Judged d) is ∙ count_unless_stored d none
+
+pub unstored_document : (f : Form) (d : Document) → f ≡ form.Judged d → is_storing (Some f) ≡ false → is_stored d ≡ false
+unstored_document f d is none = subst (λ f. is_storing (Some f) ≡ false) is none
 
 -- the name behind the first of two words
 pub names_of_two : {Y : Type 0} (words : List (String Y)) (one : String Y) → length words ≡ 2 → one ≡ slice_index_or words 1 one → names_in (texts words) ≡ string_bytes one ∷ []
@@ -118,15 +122,24 @@ first_ready P one other names is ready = All-head P one (other ∷ []) (subst (A
 pub second_ready : (P : Text → Type 0) (one other : Text) (names : List Text) → names ≡ one ∷ other ∷ [] → All P names → P other
 second_ready P one other names is ready = All-head P other [] (All-tail P one (other ∷ []) (subst (All P) is ready))
 
-pub one_ready : (P : Text → Type 0) (one : Text) (names : List Text) → names ≡ one ∷ [] → All P names → P one
-one_ready P one names is ready = All-head P one [] (subst (All P) is ready)
+pub one_ready : (P : Text → Type 0) (one : Text) (names more : List Text) → names ≡ one ∷ more → All P (take 1 names) → P one
+one_ready P one names more is ready = All-head P one [] (subst (λ ns. All P (take 1 ns)) is ready)
 
 -- the words of a form with files load what they name
 pub ready_names : (P : Text → Type 0) (f : Form) (names : List Text) → f ≡ form.Opened → All P (loads (Some f) names) → All P names
 ready_names P f names is ready = subst (λ f. All P (loads (Some f) names)) is ready
 
-pub ready_name : (P : Text → Type 0) (f : Form) (d : Document) (names : List Text) → f ≡ form.Judged d → All P (loads (Some f) names) → All P names
+pub ready_name : (P : Text → Type 0) (f : Form) (d : Document) (names : List Text) → f ≡ form.Judged d → All P (loads (Some f) names) → All P (take 1 names)
 ready_name P f d names is ready = subst (λ f. All P (loads (Some f) names)) is ready
+
+pub ready_join : (P : Text → Type 0) (f : Form) (names : List Text) → f ≡ form.Join → All P (loads (Some f) names) → All P names
+ready_join P f names is ready = subst (λ f. All P (loads (Some f) names)) is ready
+
+-- the words of a join name a file
+pub join_names : (words : List Text) → form_of words ≡ Some form.Join → names_in words ≡ [] → ⊥
+join_names words is none =
+    let three : length words ≡ 3 = subst (HasCount (length words)) is (words_count words) in
+    omega (arith, three, length-drop 1 words, ap length none)
 
 pub named : {one other first second : Text} → first ≡ one → second ≡ other → one ∷ other ∷ [] ≡ first ∷ second ∷ []
 named {one} {other} {first} {second} is are = ap (λ n. n ∷ other ∷ []) (sym is) ∙ ap (λ n. first ∷ n ∷ []) (sym are)

@@ -14,11 +14,12 @@ use Rattle.house_model.specs.Text.{Lines}
 use Rattle.house_model.proofs.EndTextLemmas.{end_text-ascii}
 use Rattle.house_model.proofs.MarkLemmas.{length-marks_after, marks-unstopped}
 use Rattle.audit_chain.specs.Chain.{audit_bytes}
-use Rattle.house_top.specs.declared.forms.audit.Audited.{Audited}
+use Rattle.house_top.specs.declared.filed.Filed.{Filed}
 use Rattle.house_top.specs.declared.status.Status.{Status}
 use Rattle.house_top.specs.declared.status.Status.TheVariants as status
 use Rattle.house_top.specs.Answer.{IsEndAnswer, IsHeardAnswer, status_of_answer}
-use Rattle.house_top.specs.Audited.{CanBeAudited, IsAuditedHeard, IsAuditedRun, StoresAudit, status_of_audited}
+use Rattle.house_top.specs.Audited.{CanBeAudited, IsAuditedHeard, IsAuditedRun, StoresAudit}
+use Rattle.house_top.specs.Filed.{status_of_filed}
 use Rattle.house_top.specs.Due.{audit_of}
 use Rattle.house_top.proofs.AnswerLemmas.{all_in_force, done_parts, goes_to_report, taken_done}
 use Rattle.input_run.specs.declared.fault.InputFault.{InputFault}
@@ -88,17 +89,17 @@ made lines run kept text file has is answer written =
 pub keeps_some : {A : Type 0} (run : LineRun) → keeps run ≡ true → run.kept ≡ None → A
 keeps_some {A} run keeps_lines none = absurd (let wrong : false ≡ true = sym (ap (λ (o : Option Kept). is_some o) none) ∙ keeps_lines in cc)
 
-pub audited : (lines : Lines) (a : Audited) → IsEndAnswer goal.Run lines a.answer.status a.answer.text.items → a.answer.status ≡ status.Done → IsSomeAnd a.audit (λ file. file.items ≡ audit_of lines) → IsAuditedRun lines a
+pub audited : (lines : Lines) (a : Filed) → IsEndAnswer goal.Run lines a.answer.status a.answer.text.items → a.answer.status ≡ status.Done → IsSomeAnd a.file (λ file. file.items ≡ audit_of lines) → IsAuditedRun lines a
 audited lines a answer done audit = record { answers = answer; audit = λ done. audit; unless_done = λ undone. absurd (undone done) }
 
-pub unaudited : (lines : Lines) (a : Audited) → IsEndAnswer goal.Run lines a.answer.status a.answer.text.items → (a.answer.status ≡ status.Done → ⊥) → a.audit ≡ None → IsAuditedRun lines a
+pub unaudited : (lines : Lines) (a : Filed) → IsEndAnswer goal.Run lines a.answer.status a.answer.text.items → (a.answer.status ≡ status.Done → ⊥) → a.file ≡ None → IsAuditedRun lines a
 unaudited lines a answer undone none = record { answers = answer; audit = λ done. absurd (undone done); unless_done = λ undone. none }
 
 pub done_answer : (lines : Lines) (s : Status) (text : Text) → s ≡ status.Done → IsEndAnswer goal.Run lines s text → IsEndAnswer goal.Run lines status.Done text
 done_answer lines s text done answer = subst (λ s. IsEndAnswer goal.Run lines s text) done answer
 
 -- the status of a fault
-pub fault_status : (why : InputFault) → status_of_answer (Err why) ≡ status_of_audited (Err why)
+pub fault_status : (why : InputFault) → status_of_answer (Err why) ≡ status_of_filed (Err why)
 fault_status fault.Failed = refl
 fault_status fault.Memory = refl
 
@@ -108,25 +109,25 @@ pub can_be_audited : (before after : Option Text) (heard : Heard) → HearsWhere
 can_be_audited before after (what.Lines run) (lines, has, few, tells) = (lines, has, few)
 can_be_audited before after what.TooLong over = tt
 
-pub heard_answer : (heard : Heard) (a : Audited) → IsAuditedHeard heard a → IsHeardAnswer goal.Run heard a.answer.status a.answer.text.items
+pub heard_answer : (heard : Heard) (a : Filed) → IsAuditedHeard heard a → IsHeardAnswer goal.Run heard a.answer.status a.answer.text.items
 heard_answer (what.Lines run) a audited = λ lines has. (audited lines has).answers
 heard_answer what.TooLong a (is, text, none) = (is, text)
 
-pub stores_audit : (before after : Option Text) (heard : Heard) (a : Audited) → HearsWhereTold goal.Run [] before after heard → IsAuditedHeard heard a → StoresAudit before a
+pub stores_audit : (before after : Option Text) (heard : Heard) (a : Filed) → HearsWhereTold goal.Run [] before after heard → IsAuditedHeard heard a → StoresAudit before a
 stores_audit before after (what.Lines run) a (lines, has, few, tells) audited = record {
   audit = λ done. of_input before after tells done;
   unless_done = (audited lines has).unless_done;
 }
   where
     of_input : (before after : Option Text) → IfSome before (λ input. IsSomeAnd after (λ rest. TellsEnd goal.Run [] input rest lines)) → a.answer.status ≡ status.Done →
-        IfSome before (λ input. IsSomeAnd a.audit (λ file. file.items ≡ audit_of (heard input)))
+        IfSome before (λ input. IsSomeAnd a.file (λ file. file.items ≡ audit_of (heard input)))
     of_input None after tells done = tt
     of_input (Some input) None tells done = absurd tells
     of_input (Some input) (Some rest) tells done =
         let is = audited lines has in
         let call = is.answers.of_call refl done in
         let same : heard input ≡ lines = (tells.all (goes_to_report lines call.done)).2 in
-        subst (λ (ls : Lines). IsSomeAnd a.audit (λ file. file.items ≡ audit_of ls)) (sym same) (is.audit done)
+        subst (λ (ls : Lines). IsSomeAnd a.file (λ file. file.items ≡ audit_of ls)) (sym same) (is.audit done)
 stores_audit before after what.TooLong a over (is, text, none) = record {
   audit = λ done. absurd (let wrong : status.TooLong ≡ status.Done = sym is ∙ done in cc);
   unless_done = λ undone. none;

@@ -23,7 +23,7 @@ use Rattle.house_top.specs.declared.form.Form.TheVariants as form
 use Rattle.house_top.specs.declared.status.Status.{Status}
 use Rattle.house_top.specs.declared.status.Status.TheVariants as status
 use Rattle.house_top.specs.Answer.{Answers, IsAnswerTo, IsAnswered, IsShortOrFault, IsWhole}
-use Rattle.house_top.specs.Due.{IsDueText, IsRunText, IsTextOfRun, IsTextOpened, Run, due_status, end_of_run, hears, is_for_report, lines_of, opened_run, reported, run_behind, run_of}
+use Rattle.house_top.specs.Due.{IsDueText, IsRunText, IsTextOfRun, IsTextOpened, Run, due_status, end_of_run, hears, is_for_report, lines_of, opened_run, printed, reported, run_behind, run_of}
 use Rattle.house_top.specs.Due.{status_of_end, status_of_run, status_opened}
 use Rattle.house_io.specs.Files.{Contents}
 use Rattle.house_top.specs.Given.{Given, told}
@@ -32,6 +32,7 @@ use Rattle.house_top.specs.Promise.{Counts, EndsAsDue, Faults, IsCaused, IsDue, 
 use Rattle.house_top.specs.Words.{loads}
 use Rattle.house_top.proofs.AskLemmas.{heard_by, reported_by}
 use Rattle.house_top.proofs.AnswerLemmas.{ends_short_of, goes_to_report, taken_done}
+use Rattle.house_top.proofs.SlipLemmas.{judged_right, slip_is_due}
 use Rattle.input_run.proofs.EndLemmas.{never_drawn}
 use Rattle.input_run.proofs.FrontLemmas.{heard_within}
 use Rattle.input_run.proofs.TellLemmas.{outcome_by}
@@ -48,6 +49,7 @@ whole_answered status.WriteFault h = h
 whole_answered status.Memory h = h
 whole_answered status.TooLong h = h
 whole_answered (status.BadFile why) h = h
+whole_answered (status.Differs row) h = h
 whole_answered (status.Wrong worth) h = h
 
 is_due : (d s : Status) → s ≡ d → IsDue d s
@@ -60,6 +62,7 @@ is_due d status.WriteFault h = tt
 is_due d status.Memory h = tt
 is_due d status.TooLong h = h
 is_due d (status.BadFile why) h = h
+is_due d (status.Differs row) h = h
 is_due d (status.Wrong worth) h = h
 
 not_usage : (s : Status) → IsAnswered s → s ≡ status.Usage → ⊥
@@ -119,7 +122,9 @@ due_runs None given = tt
 due_runs (Some (form.Input g)) given = run_ends g [] true (is_for_report g) given.input
 due_runs (Some form.Opened) given = opened_ends (opening_of given.files) given.input
 due_runs (Some form.Audit) given = run_ends goal.Run [] true true given.input
+due_runs (Some (form.Slip name)) given = run_ends goal.Run [] true true given.input
 due_runs (Some (form.Judged d)) given = tt
+due_runs (Some form.Join) given = tt
 
 short_end : (e : Ended) → status_of_end (Some e) ≡ status.Short → e ≡ Ended.Short
 short_end Ended.Done h = absurd (let wrong : ⊥ = cc in wrong)
@@ -170,7 +175,9 @@ run_is_reported (Some (form.Input goal.Pairs)) given call = λ run. absurd (let 
 run_is_reported (Some (form.Input goal.Feasible)) given call = λ run. absurd (let wrong : ⊥ = cc in wrong)
 run_is_reported (Some form.Opened) given call = opened_is_reported (opening_of given.files) given.input call
 run_is_reported (Some form.Audit) given call = λ run. call
+run_is_reported (Some (form.Slip name)) given call = λ run. call
 run_is_reported (Some (form.Judged d)) given call = tt
+run_is_reported (Some form.Join) given call = tt
 
 -- The reports of the forms.
 
@@ -201,7 +208,7 @@ opened_report (Err s) input text done h call = tt
 
 -- the text that is due where a report is written is the report of its lines
 report_is_due : (asked : Option Form) (given : Given) (text : Text) → due_status asked given ≡ status.Done → IsDueText asked given text → IfSome (reported asked given) AreOfCall →
-    IfSome (reported asked given) (λ all. text ≡ report_of all)
+    IfSome (printed asked given) (λ all. text ≡ report_of all)
 unfolding due_status
 report_is_due None given text done h call = tt
 report_is_due (Some (form.Input goal.Run)) given text done h call = run_report (run_behind goal.Run []) given.input text refl done h call
@@ -209,7 +216,9 @@ report_is_due (Some (form.Input goal.Pairs)) given text done h call = tt
 report_is_due (Some (form.Input goal.Feasible)) given text done h call = tt
 report_is_due (Some form.Opened) given text done h call = opened_report (opening_of given.files) given.input text done h call
 report_is_due (Some form.Audit) given text done h call = run_report (run_behind goal.Run []) given.input text refl done h call
+report_is_due (Some (form.Slip name)) given text done h call = tt
 report_is_due (Some (form.Judged d)) given text done h call = tt
+report_is_due (Some form.Join) given text done h call = tt
 
 not_over : (opening : Lines) (input : Text) (over : Bool) → is_over input ≡ over → ends_run goal.Run (opening ++ heard input) ≡ false →
     status_of_end (outcome goal.Run opening input) ≡ status.Done → is_over input ≡ false
@@ -241,7 +250,19 @@ all_lines (Some (form.Input goal.Pairs)) given done call = tt
 all_lines (Some (form.Input goal.Feasible)) given done call = tt
 all_lines (Some form.Opened) given done call = all_opened (opening_of given.files) given.input done call
 all_lines (Some form.Audit) given done call = all_of_run [] true given.input done call
+all_lines (Some (form.Slip name)) given done call = all_of_run [] true given.input done call
 all_lines (Some (form.Judged d)) given done call = tt
+all_lines (Some form.Join) given done call = tt
+
+-- What a report is written of is a whole call.
+printed_call : (asked : Option Form) (given : Given) → IfSome (reported asked given) AreOfCall → IfSome (printed asked given) AreOfCall
+printed_call None given call = tt
+printed_call (Some (form.Input g)) given call = call
+printed_call (Some form.Opened) given call = call
+printed_call (Some form.Audit) given call = call
+printed_call (Some (form.Slip name)) given call = tt
+printed_call (Some (form.Judged d)) given call = call
+printed_call (Some form.Join) given call = call
 
 -- Where the words are of no form.
 
@@ -285,6 +306,8 @@ usage_promise asked given before after none = subst (λ asked. KeepsThePromise a
   quotas_are_means = λ is. for_told given (λ given. tt);
   order_of_arrival_changes_nothing = λ is. for_told given (λ given. tt);
   seal_is_kept = λ is. for_told given (λ given. tt);
+  own_reviews_are_in_no_slip = λ is. for_told given (λ given. tt);
+  right_slips_print_chances = λ is. for_told given (λ given. tt);
   all_lines_are_run = λ is. for_told given (λ given. tt);
   assignment_is_valid = λ is. for_told given (λ given. tt);
   short_for_want_of_an_assignment = λ is. for_told given (λ given. tt);
@@ -380,6 +403,8 @@ fault_promise asked given s before after not_done not_short faulty = record {
   quotas_are_means = λ is. absurd (not_done is);
   order_of_arrival_changes_nothing = λ is. absurd (not_done is);
   seal_is_kept = λ is. absurd (not_done is);
+  own_reviews_are_in_no_slip = λ is. absurd (not_done is);
+  right_slips_print_chances = λ is. absurd (not_done is);
   all_lines_are_run = λ is. absurd (not_done is);
   assignment_is_valid = λ is. absurd (not_done is);
   short_for_want_of_an_assignment = λ is. absurd (not_short is);
@@ -427,13 +452,16 @@ pub whole_promise : (asked : Option Form) (given : Option Given) (s : Status) (t
     KeepsThePromise asked given s before after
 whole_promise asked given s text before after answers appended = record {
   chances_are_counted = λ done. IfSome_then given answers.as_due (λ given answer.
-      two_told (reported asked given) (answer.of_call done) (printed given answer done) (λ all of is. (text, counted all text of is, appended)));
+      two_told (printed asked given) (printed_call asked given (answer.of_call done)) (report_text given answer done) (λ all of is. (text, counted all text of is, appended)));
   own_reviews_change_no_chance = λ done. IfSome_then given answers.as_due (λ given answer.
-      two_told (reported asked given) (answer.of_call done) (printed given answer done) (λ all of is. (text, isolated all text of is, appended)));
+      two_told (printed asked given) (printed_call asked given (answer.of_call done)) (report_text given answer done) (λ all of is. (text, isolated all text of is, appended)));
   seats_are_quotas_rounded = λ done. IfSome_then given answers.as_due (λ given answer. IfSome_then (reported asked given) (answer.of_call done) rounded);
   quotas_are_means = λ done. IfSome_then given answers.as_due (λ given answer. IfSome_then (reported asked given) (answer.of_call done) means);
   order_of_arrival_changes_nothing = λ done. IfSome_then given answers.as_due (λ given answer. IfSome_then (reported asked given) (answer.of_call done) in_any_order);
   seal_is_kept = λ done. IfSome_then given answers.as_due (λ given answer. IfSome_then (reported asked given) (answer.of_call done) sealed);
+  own_reviews_are_in_no_slip = λ done. IfSome_then given answers.as_due (λ given answer.
+      slip_is_due asked given text before after (sym answer.ends ∙ done) answer.writes (answer.of_call done) appended);
+  right_slips_print_chances = λ done. IfSome_then given answers.as_due (λ given answer. judged_right asked given (sym answer.ends ∙ done));
   all_lines_are_run = λ done. IfSome_then given answers.as_due (λ given answer. all_lines asked given (sym answer.ends ∙ done) (answer.of_call done));
   assignment_is_valid = λ done. IfSome_then given answers.as_due (λ given answer.
       two_told (run_of asked given) (due_runs asked given) (run_is_reported asked given (answer.of_call done))
@@ -444,8 +472,8 @@ whole_promise asked given s text before after answers appended = record {
       IfSome_then (run_of asked given) (due_runs asked given) (λ run runs comes. subst IsShortOrFault (sym answer.ends) (told_short run.0 run.1 (due_status asked given) runs comes)));
 }
   where
-    printed : (given : Given) → IsAnswerTo asked given s text → s ≡ status.Done → IfSome (reported asked given) (λ all. text ≡ report_of all)
-    printed given answer done = report_is_due asked given text (sym answer.ends ∙ done) answer.writes (answer.of_call done)
+    report_text : (given : Given) → IsAnswerTo asked given s text → s ≡ status.Done → IfSome (printed asked given) (λ all. text ≡ report_of all)
+    report_text given answer done = report_is_due asked given text (sym answer.ends ∙ done) answer.writes (answer.of_call done)
 
 -- What holds of a form holds of what was asked where that is the form.
 

@@ -47,6 +47,7 @@ run_answered status.WriteFault h = absurd h
 run_answered status.Memory h = absurd h
 run_answered status.TooLong h = tt
 run_answered (status.BadFile why) h = absurd h
+run_answered (status.Differs row) h = absurd h
 run_answered (status.Wrong worth) h = absurd h
 
 not_bad : (s : Status) (why : Bad) → IsOfRun s → s ≡ status.BadFile why → ⊥

@@ -2,8 +2,11 @@ pub mod AnswerLemmas
 pub mod AskLemmas
 pub mod AuditLemmas
 pub mod CallLemmas
+pub mod DeskLemmas
 pub mod FormLemmas
+pub mod JoinedLemmas
 pub mod JudgedLemmas
 pub mod LoadLemmas
 pub mod ReadLemmas
+pub mod SlipLemmas
 pub mod StoreLemmas

@@ -28,7 +28,7 @@ pub loaded_short : (file : Option Text) (bytes : Text) → file ≡ Some bytes �
 loaded_short file bytes is fits = ap loaded is ∙ within_limit bytes true (le-leb (length bytes) MOST_BYTES fits)
 
 -- a file that is longer is not
-loaded_long : (file : Option Text) → IsSomeAnd file (λ bytes. MOST_BYTES < length bytes) → loaded file ≡ Err status.TooLong
+pub loaded_long : (file : Option Text) → IsSomeAnd file (λ bytes. MOST_BYTES < length bytes) → loaded file ≡ Err status.TooLong
 loaded_long None longer = absurd longer
 loaded_long (Some bytes) longer = within_limit bytes false (lt-leb (length bytes) MOST_BYTES longer)
 

@@ -1,28 +1,32 @@
--- What is promised of the words that store the audit of a run.
-use Rattle.std.proofs.Common.{◌≡◌, true, false, cond, ℕ, Vec, [], ◌∷◌, List, Option, Some, None, length, refl, sym, ap, ◌∙◌, subst, inl, inr}
+-- What is promised of the words that store a file.
+use Rattle.std.proofs.Common.{◌≡◌, ◌⊎◌, ◌≤◌, true, false, cond, ℕ, Vec, List, Option, Some, None, length, take, refl, sym, ap, ◌∙◌, subst, inl, inr}
 use Rattle.std.specs.Prelude.{IfSome, IsSomeAnd, MatchOption}
 use Rattle.std.specs.FinMap.{get, get-insert}
 use Rattle.std.specs.Cmp.Lexicographic.{nat_list_cmp_total}
 use Rattle.std.proofs.lemmas.Map.Text.{is_eq-slice_cmp}
-use Rattle.house_base.proofs.AmongLemmas.{bytes_eq-other}
 use Rattle.std.proofs.lemmas.Option.{IfSome_then}
+use Rattle.std.proofs.Math.Seq.{take-length}
+use Rattle.house_base.proofs.AmongLemmas.{bytes_eq-other}
+use Rattle.house_base.specs.Text.{Text}
 use Rattle.house_io.specs.Faults.{Rose}
 use Rattle.house_io.specs.Files.{Contents, KeepsOthers, told_with}
 use Rattle.house_io.specs.Sink.{AppendsWhereTold}
-use Rattle.house_base.specs.Text.{Text}
+use Rattle.house_io.proofs.Counting.{Rose-from_earlier, Rose-until_later}
 use Rattle.house_model.specs.declared.goal.Goal.TheVariants as goal
+use Rattle.house_model.specs.Heard.{heard}
+use Rattle.house_top.specs.declared.document.Document.TheVariants as document
+use Rattle.house_top.specs.declared.filed.Filed.{Filed}
 use Rattle.house_top.specs.declared.form.Form.{Form}
 use Rattle.house_top.specs.declared.form.Form.TheVariants as form
-use Rattle.house_top.specs.declared.forms.audit.Audited.{Audited}
 use Rattle.house_top.specs.declared.status.Status.{Status}
 use Rattle.house_top.specs.declared.status.Status.TheVariants as status
 use Rattle.house_top.specs.Answer.{Answers, IsAnswerTo, IsAnswered}
-use Rattle.house_top.specs.Audited.{IsStored, StoresAudit}
-use Rattle.house_top.specs.Due.{due_file, due_status}
-use Rattle.house_top.specs.Given.{Given, input_alone, told}
-use Rattle.house_top.specs.Promise.{Counts, EndsAsDue, FailsToWrite, Faults, IsCaused, KeepsFiles, KeepsThePromise, ReadsFarEnough, StoresWhatIsDue, WritesWhatIsDue}
+use Rattle.house_top.specs.Audited.{StoresAudit}
+use Rattle.house_top.specs.Due.{audit_of, due_file, due_status}
+use Rattle.house_top.specs.Filed.{FilesWhatIsDue, IsGivenAndStored}
+use Rattle.house_top.specs.Given.{Given, told}
+use Rattle.house_top.specs.Promise.{Counts, EndsAsDue, FailsToWrite, Faults, IsCaused, KeepsFiles, KeepsThePromise, LoadRose, ReadsFarEnough, StoreRose, StoresWhatIsDue, WritesWhatIsDue, counted}
 use Rattle.house_top.specs.Words.{is_storing, last_name, loads}
-use Rattle.std.proofs.Math.Seq.{take-length}
 use Rattle.house_top.proofs.CallLemmas.{fault_promise, reads_unwritten, whole_ends, whole_promise, whole_writes, write_fault_ends, write_fault_writes}
 
 -- The answer of `audit` is that of `run`.
@@ -89,47 +93,79 @@ reads_fails {O} {F} told shown asked names given input s faults old new before a
   ];
 }
 
-pub not_storing : (asked : Option Form) → (asked ≡ Some form.Audit → ⊥) → is_storing asked ≡ false
-not_storing None other = refl
-not_storing (Some (form.Input g)) other = refl
-not_storing (Some form.Opened) other = refl
-not_storing (Some form.Audit) other = absurd (other refl)
-not_storing (Some (form.Judged d)) other = refl
+pub not_storing : (asked : Option Form) → (asked ≡ Some form.Audit → ⊥) → (asked ≡ Some (form.Judged document.OldAudit) → ⊥) → is_storing asked ≡ false
+not_storing None other others = refl
+not_storing (Some (form.Input g)) other others = refl
+not_storing (Some form.Opened) other others = refl
+not_storing (Some (form.Slip name)) other others = refl
+not_storing (Some form.Audit) other others = absurd (other refl)
+not_storing (Some (form.Judged document.Slip)) other others = refl
+not_storing (Some (form.Judged document.Audit)) other others = refl
+not_storing (Some (form.Judged document.OldAudit)) other others = absurd (others refl)
+not_storing (Some form.Join) other others = refl
+
+-- the audit of what is given is to be stored where the call is done
+pub audit_files : (names : List Text) (input : Option Text) (files : Option Contents) (a : Filed) → StoresAudit input a → FilesWhatIsDue (Some form.Audit) (told (Some form.Audit) names input files) a
+audit_files names input files a stores = record {
+  stored = λ done. by input (stores.audit done);
+  unless_done = stores.unless_done;
+}
+  where
+    by : (input : Option Text) → IfSome input (λ input. IsSomeAnd a.file (λ file. file.items ≡ audit_of (heard input))) →
+        IfSome (told (Some form.Audit) names input files) (λ given. IsSomeAnd a.file (λ file. file.items ≡ due_file (Some form.Audit) given))
+    by None is = tt
+    by (Some input) is = is
+
+-- A count that rose has risen when more calls have followed.
+
+load_later : (asked : Option Form) (first mid last : ℕ) → first ≤ mid → mid ≤ last → LoadRose asked (first, mid) → LoadRose asked (first, last)
+load_later None first mid last le more rose = absurd rose
+load_later (Some (form.Input g)) first mid last le more rose = absurd rose
+load_later (Some form.Audit) first mid last le more rose = absurd rose
+load_later (Some (form.Slip name)) first mid last le more rose = absurd rose
+load_later (Some form.Opened) first mid last le more rose = Rose-until_later first mid last le rose more
+load_later (Some (form.Judged d)) first mid last le more rose = Rose-until_later first mid last le rose more
+load_later (Some form.Join) first mid last le more rose = Rose-until_later first mid last le rose more
+
+caused_later : (asked : Option Form) (given : Option Given) (input : Option Text) (s : Status) (reads : Counts) (first mid last : ℕ) → first ≤ mid → mid ≤ last →
+    IsCaused asked given input s reads (first, mid) → IsCaused asked given input s reads (first, last)
+caused_later asked given input s reads first mid last le more caused = record {
+  read_fault = λ is. elim (caused.read_fault is) [ inl read ↦ inl read | inr loaded ↦ inr (load_later asked first mid last le more loaded) ];
+  too_long = λ is unloaded. caused.too_long is (λ loaded. unloaded (load_later asked first mid last le more loaded));
+  bad_file = caused.bad_file;
+}
+
+reads_later : {I : Type 0} (left : I → Option Text) (asked : Option Form) (given : Option Given) (first mid last : ℕ) (s : Status) (old new : I) → first ≤ mid → mid ≤ last →
+    ReadsFarEnough left asked given (first, mid) s old new → ReadsFarEnough left asked given (first, last) s old new
+reads_later {I} left asked given first mid last s old new le more reads = record {
+  read_far_enough = reads.read_far_enough;
+  read_fault_undecided = λ is unloaded. reads.read_fault_undecided is (λ loaded. unloaded (load_later asked first mid last le more loaded));
+  read_no_further = reads.read_no_further;
+  read_to_end = reads.read_to_end;
+  usage_reads_nothing = reads.usage_reads_nothing;
+  unheard_is_unread = reads.unheard_is_unread;
+  bad_file_reads_nothing = reads.bad_file_reads_nothing;
+}
 
 -- A call that gives nothing and stores nothing.
 
-pub unstored : {F : Type 0} (shown : F → Option Contents) (names : List Text) (given : Option Given) (s : Status) (old : F) → (s ≡ status.Done → ⊥) → StoresWhatIsDue shown (Some form.Audit) names given s old old
-unstored {F} shown names given s old undone = record {
+pub unstored : {F : Type 0} (shown : F → Option Contents) (asked : Option Form) (names : List Text) (given : Option Given) (s : Status) (old new : F) → is_storing asked ≡ true → (s ≡ status.Done → ⊥) →
+    shown new ≡ shown old → StoresWhatIsDue shown asked names given s old new
+unstored {F} shown asked names given s old new storing undone same = record {
   stored = λ done storing. absurd (undone done);
-  unless_stored = λ is failed. refl;
-  others_unchanged = same_others (shown old) (shown old) (last_name names) refl;
-  unasked = λ unasked. record { files_unchanged = refl; shelf_unchanged = λ none. refl };
+  unless_stored = λ is failed. same;
+  others_unchanged = same_others (shown old) (shown new) (last_name names) same;
+  unasked = λ unasked. absurd (let wrong : true ≡ false = sym storing ∙ unasked in cc);
 }
 
-pub wrote_none : {O F : Type 0} (told : O → Option Text) (shown : F → Option Contents) (given : Option Given) (s : Status) (faults : Faults) (old new : O) (files : F) → (s ≡ status.WriteFault → ⊥) →
-    FailsToWrite told shown (Some form.Audit) given s faults old new files files
-wrote_none {O} {F} told shown given s faults old new files unfailed = record { write_fault_by_one = λ failed. absurd (unfailed failed) }
+pub wrote_none : {O F : Type 0} (told : O → Option Text) (shown : F → Option Contents) (asked : Option Form) (given : Option Given) (s : Status) (faults : Faults) (old new : O) (before after : F) →
+    (s ≡ status.WriteFault → ⊥) → FailsToWrite told shown asked given s faults old new before after
+wrote_none {O} {F} told shown asked given s faults old new before after unfailed = record { write_fault_by_one = λ failed. absurd (unfailed failed) }
 
-pub wrote_front : {O F : Type 0} (told : O → Option Text) (shown : F → Option Contents) (given : Option Given) (faults : Faults) (old new : O) (files : F) → Rose faults.writes.0 faults.writes.1 →
-    FailsToWrite told shown (Some form.Audit) given status.WriteFault faults old new files files
-wrote_front {O} {F} told shown given faults old new files rose = record { write_fault_by_one = λ failed. inl (rose, refl) }
-
--- Behind a report that was given whole.
+-- Behind an answer: it is given, and then its file is stored.
 
 not_write_fault : (s : Status) → IsAnswered s → s ≡ status.WriteFault → ⊥
 not_write_fault s answered is = subst IsAnswered is answered
-
--- the audit of what is given is stored where the call is done
-stored_as_due : {F : Type 0} (shown : F → Option Contents) (a : Audited) (name : Text) (input : Option Text) (files : Option Contents) (old new : F) → StoresAudit input a →
-    MatchOption a.audit (new ≡ old) (λ file. shown new ≡ told_with (shown old) name file.items) → a.answer.status ≡ status.Done →
-    IfSome (told (Some form.Audit) (name ∷ []) input files) (λ given. shown new ≡ told_with (shown old) (last_name (name ∷ [])) (due_file (Some form.Audit) given))
-stored_as_due {F} shown a name None files old new stores kept done = tt
-stored_as_due {F} shown a name (Some input) files old new stores kept done = by_audit a.audit kept (stores.audit done)
-  where
-    by_audit : {Z : Type 0} (o : Option (Vec ℕ Z)) → MatchOption o (new ≡ old) (λ file. shown new ≡ told_with (shown old) name file.items) →
-        IsSomeAnd o (λ file. file.items ≡ due_file (Some form.Audit) (input_alone input)) → shown new ≡ told_with (shown old) name (due_file (Some form.Audit) (input_alone input))
-    by_audit {Z} None kept is = absurd is
-    by_audit {Z} (Some file) kept is = kept ∙ ap (told_with (shown old) name) is
 
 kept_unless_done : {F Z : Type 0} (shown : F → Option Contents) (name : Text) (o : Option (Vec ℕ Z)) (old new : F) → MatchOption o (new ≡ old) (λ file. shown new ≡ told_with (shown old) name file.items) → o ≡ None → shown new ≡ shown old
 kept_unless_done {F} {Z} shown name None old new kept none = ap shown kept
@@ -140,67 +176,110 @@ by_others : {F Z : Type 0} (shown : F → Option Contents) (name : Text) (o : Op
 by_others {F} {Z} shown name None old new kept = same_others (shown old) (shown new) name (ap shown kept)
 by_others {F} {Z} shown name (Some file) old new kept = subst (λ (after : Option Contents). KeepsOthers (shown old) after name) (sym kept) (stored_others (shown old) name file.items)
 
-pub whole_stores : {F : Type 0} (shown : F → Option Contents) (a : Audited) (name : Text) (input : Option Text) (files : Option Contents) (counts : Counts) (s : Status) (old new : F) → IsAnswered a.answer.status →
-    StoresAudit input a → IsStored shown a name counts s old new → StoresWhatIsDue shown (Some form.Audit) (name ∷ []) (told (Some form.Audit) (name ∷ []) input files) s old new
-whole_stores {F} shown a name input files counts s old new answered stores (inl (is, kept)) = record {
-  stored = λ done storing. stored_as_due shown a name input files old new stores kept (sym is ∙ done);
-  unless_stored = λ undone unfailed. kept_unless_done shown name a.audit old new kept (stores.unless_done (λ done. undone (is ∙ done)));
-  others_unchanged = by_others shown name a.audit old new kept;
-  unasked = λ unasked. absurd (let wrong : true ≡ false = unasked in cc);
-}
-whole_stores {F} shown a name input files counts s old new answered stores (inr (failed, others, rose)) = record {
-  stored = λ done storing. absurd (let wrong : status.WriteFault ≡ status.Done = sym failed ∙ done in cc);
-  unless_stored = λ undone unfailed. absurd (unfailed failed);
-  others_unchanged = others;
-  unasked = λ unasked. absurd (let wrong : true ≡ false = unasked in cc);
-}
+by_file : {F Z : Type 0} (shown : F → Option Contents) (name due : Text) (o : Option (Vec ℕ Z)) (old new : F) → MatchOption o (new ≡ old) (λ file. shown new ≡ told_with (shown old) name file.items) →
+    IsSomeAnd o (λ file. file.items ≡ due) → shown new ≡ told_with (shown old) name due
+by_file {F} {Z} shown name due None old new kept is = absurd is
+by_file {F} {Z} shown name due (Some file) old new kept is = kept ∙ ap (told_with (shown old) name) is
 
--- the rest of the promise, where the call ends as its run did and where the store failed
+-- start: the files when the call began, before: when its answer stood, after: at the end; and the counts of their faults
+module _ {O F : Type 0} (told : O → Option Text) (shown : F → Option Contents) (f : Form) (given : Option Given) (a : Filed) (name : Text) (writes : Counts) (first mid last : ℕ) (s : Status) (old new : O) (start before after : F)
+    (storing : is_storing (Some f) ≡ true) (le : first ≤ mid) (more : mid ≤ last) (answers : Answers (Some f) given a.answer.status a.answer.text.items)
+    (done : IsGivenAndStored told shown a name writes (mid, last) s old new before after) where
+  abbrev Behind : Type 0
+  Behind = (AppendsWhereTold (told old) (told new) a.answer.text.items × (s ≡ a.answer.status)) ⊎
+      ((s ≡ status.WriteFault) × ((count : ℕ) × AppendsWhereTold (told old) (told new) (take count a.answer.text.items)))
 
-pub whole_fails : {O F : Type 0} (told : O → Option Text) (shown : F → Option Contents) (a : Audited) (name : Text) (given : Option Given) (s : Status) (faults : Faults) (old new : O) (before after : F) →
-    Answers (Some form.Audit) given a.answer.status a.answer.text.items → AppendsWhereTold (told old) (told new) a.answer.text.items → IsStored shown a name faults.loads s before after →
-    FailsToWrite told shown (Some form.Audit) given s faults old new before after
-whole_fails {O} {F} told shown a name given s faults old new before after answers appended (inl (is, kept)) = record {
-  write_fault_by_one = λ failed. absurd (not_write_fault a.answer.status answers.answered (sym is ∙ failed));
-}
-whole_fails {O} {F} told shown a name given s faults old new before after answers appended (inr (failed, others, rose)) = record {
-  write_fault_by_one = λ failed. inr ((refl, rose), IfSome_then given answers.as_due (λ given answer. (a.answer.text.items, answer.writes, appended)));
-}
+  -- the answer was given whole and the call ends so, or a front of it was and the call failed to write
+  behind : Behind
+  behind = elim done [
+    | inl given_whole ↦ elim given_whole.1 [
+      | inl stored ↦ inl (given_whole.0, stored.0)
+      | inr failed ↦ inr (failed.0, (length a.answer.text.items, subst (AppendsWhereTold (told old) (told new)) (sym (take-length a.answer.text.items)) given_whole.0))
+    ]
+    | inr failed ↦ inr (failed.0, failed.3)
+  ]
 
-pub stored_ends : {F : Type 0} (shown : F → Option Contents) (a : Audited) (name : Text) (given : Option Given) (input : Option Text) (s : Status) (faults : Faults) (before after : F) →
-    Answers (Some form.Audit) given a.answer.status a.answer.text.items → IsCaused (Some form.Audit) given input a.answer.status faults.reads faults.loads → IsStored shown a name faults.loads s before after →
-    EndsAsDue (Some form.Audit) given input s faults
-stored_ends {F} shown a name given input s faults before after answers caused (inl (is, kept)) =
-    subst (λ s. EndsAsDue (Some form.Audit) given input s faults) (sym is) (whole_ends (Some form.Audit) form.Audit given input a.answer.status a.answer.text.items faults refl answers caused)
-stored_ends {F} shown a name given input s faults before after answers caused (inr (failed, others, rose)) =
-    subst (λ s. EndsAsDue (Some form.Audit) given input s faults) (sym failed) (write_fault_ends (Some form.Audit) form.Audit given input faults refl (inr (refl, rose)))
+  failed_for : s ≡ status.WriteFault → Rose writes.0 writes.1 ⊎ StoreRose (Some f) (first, last)
+  failed_for is = elim done [
+    | inl given_whole ↦ elim given_whole.1 [
+      | inl stored ↦ absurd (not_write_fault a.answer.status answers.answered (sym stored.0 ∙ is))
+      | inr failed ↦ inr (storing, Rose-from_earlier first mid last le failed.2)
+    ]
+    | inr failed ↦ inl failed.2
+  ]
 
-pub stored_writes : {O F : Type 0} (told : O → Option Text) (shown : F → Option Contents) (a : Audited) (name : Text) (given : Option Given) (s : Status) (counts : Counts) (old new : O) (before after : F) →
-    Answers (Some form.Audit) given a.answer.status a.answer.text.items → AppendsWhereTold (told old) (told new) a.answer.text.items → IsStored shown a name counts s before after →
-    WritesWhatIsDue told (Some form.Audit) given s old new
-stored_writes {O} {F} told shown a name given s counts old new before after answers appended (inl (is, kept)) =
-    subst (λ s. WritesWhatIsDue told (Some form.Audit) given s old new) (sym is) (whole_writes told (Some form.Audit) given a.answer.status a.answer.text.items old new answers appended)
-stored_writes {O} {F} told shown a name given s counts old new before after answers appended (inr (failed, others, rose)) =
-    subst (λ s. WritesWhatIsDue told (Some form.Audit) given s old new) (sym failed)
-    (write_fault_writes told (Some form.Audit) given a.answer.status a.answer.text.items old new answers (length a.answer.text.items, subst (AppendsWhereTold (told old) (told new)) (sym (take-length a.answer.text.items)) appended))
+  pub filed_ends : (input : Option Text) (reads : Counts) → IsCaused (Some f) given input a.answer.status reads (first, mid) → EndsAsDue (Some f) given input s (counted reads (first, last) writes)
+  filed_ends input reads caused = by behind where
+    by : Behind → EndsAsDue (Some f) given input s (counted reads (first, last) writes)
+    by (inl (appended, is)) = subst (λ s. EndsAsDue (Some f) given input s (counted reads (first, last) writes)) (sym is)
+        (whole_ends (Some f) f given input a.answer.status a.answer.text.items (counted reads (first, last) writes) refl answers
+        (caused_later (Some f) given input a.answer.status reads first mid last le more caused))
+    by (inr (is, front)) = subst (λ s. EndsAsDue (Some f) given input s (counted reads (first, last) writes)) (sym is)
+        (write_fault_ends (Some f) f given input (counted reads (first, last) writes) refl (failed_for is))
 
-pub stored_promise : {F : Type 0} (shown : F → Option Contents) (a : Audited) (name : Text) (given : Option Given) (s : Status) (counts : Counts) (told_before told_after : Option Text) (before after : F) →
-    Answers (Some form.Audit) given a.answer.status a.answer.text.items → AppendsWhereTold told_before told_after a.answer.text.items → IsStored shown a name counts s before after →
-    KeepsThePromise (Some form.Audit) given s told_before told_after
-stored_promise {F} shown a name given s counts told_before told_after before after answers appended (inl (is, kept)) =
-    subst (λ s. KeepsThePromise (Some form.Audit) given s told_before told_after) (sym is) (whole_promise (Some form.Audit) given a.answer.status a.answer.text.items told_before told_after answers appended)
-stored_promise {F} shown a name given s counts told_before told_after before after answers appended (inr (failed, others, rose)) =
-    subst (λ s. KeepsThePromise (Some form.Audit) given s told_before told_after) (sym failed) (fault_promise (Some form.Audit) given status.WriteFault told_before told_after (λ is. cc) (λ is. cc) tt)
+  pub filed_writes : WritesWhatIsDue told (Some f) given s old new
+  filed_writes = by behind where
+    by : Behind → WritesWhatIsDue told (Some f) given s old new
+    by (inl (appended, is)) = subst (λ s. WritesWhatIsDue told (Some f) given s old new) (sym is) (whole_writes told (Some f) given a.answer.status a.answer.text.items old new answers appended)
+    by (inr (is, front)) = subst (λ s. WritesWhatIsDue told (Some f) given s old new) (sym is) (write_fault_writes told (Some f) given a.answer.status a.answer.text.items old new answers front)
 
-pub stored_reads : {I F : Type 0} (left : I → Option Text) (shown : F → Option Contents) (a : Audited) (name : Text) (given : Option Given) (s : Status) (counts : Counts) (old new : I) (before after : F) → IsAnswered a.answer.status →
-    ReadsFarEnough left (Some form.Audit) given counts a.answer.status old new → IsStored shown a name counts s before after → ReadsFarEnough left (Some form.Audit) given counts s old new
-stored_reads {I} {F} left shown a name given s counts old new before after answered reads (inl (is, kept)) = subst (λ s. ReadsFarEnough left (Some form.Audit) given counts s old new) (sym is) reads
-stored_reads {I} {F} left shown a name given s counts old new before after answered reads (inr (failed, others, rose)) =
-    subst (λ s. ReadsFarEnough left (Some form.Audit) given counts s old new) (sym failed) (reads_unwritten left (Some form.Audit) given counts a.answer.status old new answered reads)
+  pub filed_promise : KeepsThePromise (Some f) given s (told old) (told new)
+  filed_promise = by behind where
+    by : Behind → KeepsThePromise (Some f) given s (told old) (told new)
+    by (inl (appended, is)) = subst (λ s. KeepsThePromise (Some f) given s (told old) (told new)) (sym is) (whole_promise (Some f) given a.answer.status a.answer.text.items (told old) (told new) answers appended)
+    by (inr (is, front)) = subst (λ s. KeepsThePromise (Some f) given s (told old) (told new)) (sym is) (fault_promise (Some f) given status.WriteFault (told old) (told new) (λ is. cc) (λ is. cc) tt)
 
--- What is stored where `audit` was asked for, under the name behind it.
-pub asked_stores : {F : Type 0} (shown : F → Option Contents) (asked : Option Form) (names these : List Text) (input : Option Text) (files : Option Contents) (s : Status) (old new : F) → asked ≡ Some form.Audit → names ≡ these →
-    StoresWhatIsDue shown (Some form.Audit) these (told (Some form.Audit) these input files) s old new → StoresWhatIsDue shown asked names (told asked names input files) s old new
-asked_stores {F} shown asked names these input files s old new some is stores =
-    subst (λ a. StoresWhatIsDue shown a names (told a names input files) s old new) (sym some)
-    (subst (λ ns. StoresWhatIsDue shown (Some form.Audit) ns (told (Some form.Audit) ns input files) s old new) (sym is) stores)
+  pub filed_reads : {I : Type 0} (left : I → Option Text) (taken left_over : I) → ReadsFarEnough left (Some f) given (first, mid) a.answer.status taken left_over → ReadsFarEnough left (Some f) given (first, last) s taken left_over
+  filed_reads {I} left taken left_over reads = by behind where
+    later : ReadsFarEnough left (Some f) given (first, last) a.answer.status taken left_over
+    later = reads_later left (Some f) given first mid last a.answer.status taken left_over le more reads
+
+    by : Behind → ReadsFarEnough left (Some f) given (first, last) s taken left_over
+    by (inl (appended, is)) = subst (λ s. ReadsFarEnough left (Some f) given (first, last) s taken left_over) (sym is) later
+    by (inr (is, front)) = subst (λ s. ReadsFarEnough left (Some f) given (first, last) s taken left_over) (sym is)
+        (reads_unwritten left (Some f) given (first, last) a.answer.status taken left_over answers.answered later)
+
+  pub filed_stores : (names : List Text) → last_name names ≡ name → shown before ≡ shown start → FilesWhatIsDue (Some f) given a → StoresWhatIsDue shown (Some f) names given s start after
+  filed_stores names named same files = record {
+    stored = λ is _. elim done [
+      | inl given_whole ↦ elim given_whole.1 [
+        | inl kept ↦ IfSome_then given (files.stored (sym kept.0 ∙ is)) (λ given file. subst (λ n. shown after ≡ told_with (shown start) n (due_file (Some f) given)) (sym named)
+            (subst (λ (o : Option Contents). shown after ≡ told_with o name (due_file (Some f) given)) same (by_file shown name (due_file (Some f) given) a.file before after kept.1 file)))
+        | inr failed ↦ absurd (let wrong : status.WriteFault ≡ status.Done = sym failed.0 ∙ is in cc)
+      ]
+      | inr failed ↦ absurd (let wrong : status.WriteFault ≡ status.Done = sym failed.0 ∙ is in cc)
+    ];
+    unless_stored = λ undone unfailed. elim done [
+      | inl given_whole ↦ elim given_whole.1 [
+        | inl kept ↦ kept_unless_done shown name a.file before after kept.1 (files.unless_done (λ is. undone (kept.0 ∙ is))) ∙ same
+        | inr failed ↦ absurd (unfailed failed.0)
+      ]
+      | inr failed ↦ absurd (unfailed failed.0)
+    ];
+    others_unchanged = subst (KeepsOthers (shown start) (shown after)) (sym named) (subst (λ (o : Option Contents). KeepsOthers o (shown after) name) same others);
+    unasked = λ unasked. absurd (let wrong : true ≡ false = sym storing ∙ unasked in cc);
+  }
+    where
+      others : KeepsOthers (shown before) (shown after) name
+      others = elim done [
+        | inl given_whole ↦ elim given_whole.1 [
+          | inl kept ↦ by_others shown name a.file before after kept.1
+          | inr failed ↦ failed.1
+        ]
+        | inr failed ↦ same_others (shown before) (shown after) name (ap shown failed.1)
+      ]
+
+  pub filed_fails : (reads : Counts) → shown before ≡ shown start → FailsToWrite told shown (Some f) given s (counted reads (first, last) writes) old new start after
+  filed_fails reads same = record {
+    write_fault_by_one = λ is. elim done [
+      | inl given_whole ↦ elim given_whole.1 [
+        | inl stored ↦ absurd (not_write_fault a.answer.status answers.answered (sym stored.0 ∙ is))
+        | inr failed ↦ inr ((storing, Rose-from_earlier first mid last le failed.2), IfSome_then given answers.as_due (λ given answer. (a.answer.text.items, answer.writes, given_whole.0)))
+      ]
+      | inr failed ↦ inl (failed.2, ap shown failed.1 ∙ same)
+    ];
+  }
+
+-- What holds of words and names holds where they are asked for.
+pub asked_by : (P : Option Form → List Text → Type 0) (asked : Option Form) (f : Form) (names these : List Text) → asked ≡ Some f → names ≡ these → P (Some f) these → P asked names
+asked_by P asked f names these some is holds = subst (λ a. P a names) (sym some) (subst (P (Some f)) (sym is) holds)

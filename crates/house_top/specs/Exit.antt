@@ -11,6 +11,7 @@ exit_of status.Short = 3
 exit_of status.ReadFault = 4
 exit_of status.WriteFault = 5
 exit_of status.Memory = 6
+exit_of (status.Differs row) = 7
 exit_of status.TooLong = 8
 exit_of (status.BadFile bad) = 9
 exit_of (status.Wrong worth) = 10

@@ -46,9 +46,11 @@ abbrev pub told : Option Form → List Text → Option Text → Option Contents 
 told None names input files = Some (input_alone [])
 told (Some (form.Input g)) names input files = option_map input_alone input
 told (Some form.Audit) names input files = option_map input_alone input
+told (Some (form.Slip name)) names input files = option_map input_alone input
 told (Some form.Opened) names input files =
     option_and_then (λ files. told_behind (opening_of (held names files)) input (held names files)) files
 told (Some (form.Judged document)) names input files = option_map (λ files. files_alone (held names files)) files
+told (Some form.Join) names input files = option_map (λ files. files_alone (held names files)) files
 
 -- what a call with these words is given, where all that they look at is told
 abbrev pub given_by : List Text → Option Text → Option Contents → Option Given

@@ -4,8 +4,11 @@ pub mod Opened
 pub mod Given
 pub mod Refused
 pub mod Judged
+pub mod Desks
 pub mod Due
 pub mod Answer
 pub mod Exit
 pub mod Promise
+pub mod Filed
 pub mod Audited
+pub mod Slipped

@@ -27,6 +27,8 @@ OpensNone bad.Toml = Unit {0}
 OpensNone (bad.Key key) = Unit {0}
 OpensNone (bad.Entry number) = Unit {0}
 OpensNone (bad.Slip line) = ⊥
+OpensNone (bad.Row row) = ⊥
+OpensNone (bad.Desk file line) = ⊥
 
 -- where files open no run, it is for a fault that they can have
 abbrev pub IsBadOpening : Opened → Type 0

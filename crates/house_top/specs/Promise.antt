@@ -19,11 +19,13 @@ use Rattle.house_top.specs.declared.form.Form.TheVariants as form
 use Rattle.house_top.specs.declared.status.Status.{Status}
 use Rattle.house_top.specs.declared.status.Status.TheVariants as status
 use Rattle.house_top.specs.Answer.{IsShortOrFault, IsWhole}
-use Rattle.house_top.specs.Due.{IsDueText, due_file, due_status, hears, reported, run_of}
+use Rattle.house_top.specs.Due.{IsDueText, due_file, due_status, hears, printed, reported, run_of, slip_asked, slip_judged}
+use Rattle.house_top.specs.Desks.{IsOfDesk}
 use Rattle.house_top.specs.Given.{Given}
-use Rattle.house_top.specs.Judged.{IsVerdict}
+use Rattle.house_top.specs.Judged.{IsRefusal}
 use Rattle.house_top.specs.Opened.{OpensNone}
 use Rattle.house_top.specs.Words.{is_storing, last_name, loads}
+use Rattle.slip_text.specs.Told.{OwnReviewsAreInNoSlip, PrintsChances}
 use Rattle.input_run.specs.Input.{DecidedWhereTold, EndsWhereTold, NoFurtherWhereTold, UndecidedWhereTold}
 
 -- The status.
@@ -53,16 +55,20 @@ abbrev pub ReadRose : Option Form → Counts → Type 0
 ReadRose None reads = ⊥
 ReadRose (Some (form.Input g)) reads = Rose reads.0 reads.1
 ReadRose (Some form.Audit) reads = Rose reads.0 reads.1
+ReadRose (Some (form.Slip name)) reads = Rose reads.0 reads.1
 ReadRose (Some form.Opened) reads = Rose reads.0 reads.1
 ReadRose (Some (form.Judged document)) reads = ⊥
+ReadRose (Some form.Join) reads = ⊥
 
 -- the words load files, and their count rose
 abbrev pub LoadRose : Option Form → Counts → Type 0
 LoadRose None loads = ⊥
 LoadRose (Some (form.Input g)) loads = ⊥
 LoadRose (Some form.Audit) loads = ⊥
+LoadRose (Some (form.Slip name)) loads = ⊥
 LoadRose (Some form.Opened) loads = Rose loads.0 loads.1
 LoadRose (Some (form.Judged document)) loads = Rose loads.0 loads.1
+LoadRose (Some form.Join) loads = Rose loads.0 loads.1
 
 -- the words store a file, and the count of the files rose
 abbrev pub StoreRose : Option Form → Counts → Type 0
@@ -73,8 +79,10 @@ abbrev pub IsBadOf : Option Form → Bad → Type 0
 IsBadOf None why = ⊥
 IsBadOf (Some (form.Input g)) why = ⊥
 IsBadOf (Some form.Audit) why = ⊥
+IsBadOf (Some (form.Slip name)) why = ⊥
 IsBadOf (Some form.Opened) why = OpensNone why
-IsBadOf (Some (form.Judged document)) why = IsVerdict document (status.BadFile why)
+IsBadOf (Some (form.Judged document)) why = IsRefusal document why
+IsBadOf (Some form.Join) why = IsOfDesk why
 
 -- why a call fails to read, and where a length that is not told is too long: a count of what its words look at rose
 pub record IsCaused (asked : Option Form) (given : Option Given) (input : Option Text) (s : Status)
@@ -127,9 +135,9 @@ IsWellAssigned goal.Feasible lines = IsTrue (has_assignment (setting lines))
 -- what holds of a printed report and of its lines, and of an assignment that is looked for
 pub record KeepsThePromise (asked : Option Form) (given : Option Given) (s : Status)
     (before after : Option Text) : Type 0 where
-  pub chances_are_counted : s ≡ status.Done → IfSome given (λ given. IfSome (reported asked given)
+  pub chances_are_counted : s ≡ status.Done → IfSome given (λ given. IfSome (printed asked given)
       (λ all. Gives before after (ChancesAreCounted all)))
-  pub own_reviews_change_no_chance : s ≡ status.Done → IfSome given (λ given. IfSome (reported asked given)
+  pub own_reviews_change_no_chance : s ≡ status.Done → IfSome given (λ given. IfSome (printed asked given)
       (λ all. Gives before after (OwnReviewsChangeNoChance all)))
   pub seats_are_quotas_rounded : s ≡ status.Done → IfSome given (λ given. IfSome (reported asked given)
       SeatsAreQuotasRounded)
@@ -139,6 +147,10 @@ pub record KeepsThePromise (asked : Option Form) (given : Option Given) (s : Sta
   pub seal_is_kept : s ≡ status.Done → IfSome given (λ given. IfSome (reported asked given) SealIsKept)
   pub all_lines_are_run : s ≡ status.Done → IfSome given (λ given. IfSome (reported asked given)
       (λ all. IfSome (hears asked given) (λ h. all ≡ h.1 ++ lines given.input)))
+  -- a slip is also that of the lines without those of its applicant's person, and one that is called right gives a chance
+  pub own_reviews_are_in_no_slip : s ≡ status.Done → IfSome given (λ given. IfSome (slip_asked asked given)
+      (λ slip. Gives before after (OwnReviewsAreInNoSlip slip.0 slip.1)))
+  pub right_slips_print_chances : s ≡ status.Done → IfSome given (λ given. IfSome (slip_judged asked given) PrintsChances)
   -- an assignment is valid, and a call ends short where one is looked for and there is none, and nowhere else
   pub assignment_is_valid : s ≡ status.Done → IfSome given (λ given. IfSome (run_of asked given)
       (λ run. IsWellAssigned run.0 (taken run.0 run.1)))

@@ -15,6 +15,8 @@ bad_words bad.Toml = bad_toml_words
 bad_words (bad.Key key) = bad_key_words (key_word key)
 bad_words (bad.Entry number) = bad_record_words number
 bad_words (bad.Slip line) = codes "bad" ∷ codes "slip" ∷ decimal line ∷ []
+bad_words (bad.Row row) = codes "bad" ∷ codes "row" ∷ decimal row ∷ []
+bad_words (bad.Desk file line) = codes "bad" ∷ codes "desk" ∷ decimal file ∷ decimal line ∷ []
 
 -- the text with which a call ends that has no run
 abbrev pub text_without_run : Status → Text

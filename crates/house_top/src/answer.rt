@@ -89,6 +89,12 @@ pub fn bad_file(alloc: Global, why: Bad) -> Result<Answer, Memory>
             &[Text(b"bad"), Text(b"slip"), Number(line)],
             &mut text,
         )?,
+        Bad::Row(row) => push_line(alloc, &[Text(b"bad"), Text(b"row"), Number(row)], &mut text)?,
+        Bad::Desk(file, line) => push_line(
+            alloc,
+            &[Text(b"bad"), Text(b"desk"), Number(file), Number(line)],
+            &mut text,
+        )?,
     }
     Ok(Answer {
         status: Status::BadFile(why),

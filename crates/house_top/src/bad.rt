@@ -13,4 +13,9 @@ pub enum Bad {
     Entry(u64),
     /// The line of a slip with this number, counted from 1, is off the form, or the first that is missing.
     Slip(u64),
+    /// The row of an audit with this number, counted from 1, is off the form, or the first that is missing.
+    Row(u64),
+    /// Of the desk files that the words name, the one with this number at the line with that one, both counted from 1:
+    /// the line is off the form, or its key does not come behind the key before it.
+    Desk(u64, u64),
 }

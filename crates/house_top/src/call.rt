@@ -6,13 +6,13 @@ ghost use Rattle.house_top.specs.Promise.{EndsAsDue, FailsToWrite, KeepsFiles, K
 ghost use Rattle.house_top.specs.Promise.{WritesWhatIsDue, counted};
 ghost use Rattle.house_top.specs.Words.{form_of, is_storing, loaded_by, names_in, texts};
 
+use crate::document::Document;
 use crate::form::Form;
 use crate::forms::answer_to;
-use crate::output::give_all;
 use crate::status::Status;
-use crate::store::audit_call;
+use crate::store::{audit_call, migrate_call};
 use crate::words::form_of;
-use house_io::{Files, Shelf, Sink, Source};
+use house_io::{Files, Shelf, Sink, Source, give_all};
 use input_run::InputFault;
 use std::alloc::Global;
 
@@ -50,6 +50,13 @@ pub fn house<I: Source, O: Sink, F: Shelf>(
 {
     match form_of(words) {
         Some(Form::Audit) => audit_call(alloc, words[1].as_str(), input, output, shelf),
+        Some(Form::Judged(Document::OldAudit)) => migrate_call(
+            alloc,
+            words[1].as_str(),
+            words[2].as_str(),
+            output,
+            shelf,
+        ),
         _ => read_only(alloc, words, input, output, shelf),
     }
 }

@@ -1,6 +1,7 @@
 //! What a call of the program asks for.
 
 use crate::document::Document;
+use house_base::Name;
 use house_model::Goal;
 
 /// What the words of a call of the program ask for.
@@ -13,6 +14,12 @@ pub enum Form {
     Opened,
     /// `audit` with the name of a file: to run the lines of the input for the report, and to store the audit of the run.
     Audit,
-    /// `check` with the name of a slip: to say of the file what it is worth, by itself.
+    /// `slip` with a name: to run the lines of the input for the report, and to tell the slip of the applicant of this name in
+    /// place of it.
+    Slip(Name),
+    /// `check` with the name of a slip, or `replay` with that of an audit: to say of the file what it is worth, by itself.
+    /// `migrate` with the names of two audits: to say it of the first, and to store its second version under the other.
     Judged(Document),
+    /// `join` with the names of two desk files: to tell the desk file of their join.
+    Join,
 }

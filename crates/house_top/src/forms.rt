@@ -8,11 +8,14 @@ ghost use Rattle.house_top.specs.Words.{form_of, is_storing, loads, names_in, te
 
 pub(crate) mod audit;
 mod input;
-mod judged;
+mod joined;
+pub(crate) mod judged;
 mod opened;
+mod slipped;
 
 use crate::answer::Answer;
 use crate::form::Form;
+use crate::words::names_in;
 use house_io::{Files, Source};
 use input_run::InputFault;
 use std::alloc::Global;
@@ -44,6 +47,7 @@ pub fn answer_to<I: Source, F: Files>(
         Form::Input(goal) => input::run_input(alloc, goal, input),
         // Its file is stored by words of their own, and none of these come here.
         Form::Audit => unreachable!(),
+        Form::Slip(name) => slipped::slip_input(alloc, name, input),
         Form::Opened => opened::run_opened(
             alloc,
             words[1].as_str(),
@@ -51,6 +55,7 @@ pub fn answer_to<I: Source, F: Files>(
             input,
             files,
         ),
-        Form::Judged(document) => judged::judge_file(alloc, document, words[1].as_str(), files),
+        Form::Judged(document) => judged::judge_alone(alloc, document, words[1].as_str(), files),
+        Form::Join => joined::join_files(alloc, names_in(words), files),
     }
 }

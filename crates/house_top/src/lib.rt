@@ -5,11 +5,13 @@
 mod answer;
 mod bad;
 mod call;
+mod desks;
 mod document;
+mod filed;
 mod form;
 mod forms;
 mod opening;
-mod output;
+mod replay;
 mod run;
 mod slip;
 mod status;

@@ -27,6 +27,8 @@ pub enum Status {
     TooLong,
     /// A file is refused.
     BadFile(Bad),
+    /// The row of an audit with this number, counted from 1, is the first that is not as the lines of the audit have it.
+    Differs(u64),
     /// A slip prints a wrong chance; this is the right one.
     Wrong(u64),
 }
@@ -44,6 +46,7 @@ impl Status {
             Status::ReadFault => 4,
             Status::WriteFault => 5,
             Status::Memory => 6,
+            Status::Differs(_) => 7,
             Status::TooLong => 8,
             Status::BadFile(_) => 9,
             Status::Wrong(_) => 10,

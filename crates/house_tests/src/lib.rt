@@ -15,10 +15,14 @@ mod faults;
 #[cfg(test)]
 mod inputs;
 #[cfg(test)]
+mod joins;
+#[cfg(test)]
 mod limits;
 #[cfg(test)]
 mod memory;
 #[cfg(test)]
 mod opened;
+#[cfg(test)]
+mod replays;
 #[cfg(test)]
 mod slips;

@@ -1,0 +1,15 @@
+pub mod BoardLemmas
+pub mod ChanceLemmas
+pub mod FileLemmas
+pub mod LineLemmas
+pub mod MoveLemmas
+pub mod NameLemmas
+pub mod OutcomeLemmas
+pub mod OwnLemmas
+pub mod PlaceLemmas
+pub mod RowLemmas
+pub mod SetLemmas
+pub mod SevenLemmas
+pub mod StandingLemmas
+pub mod TextLemmas
+pub mod ToldLemmas

@@ -1,0 +1,6 @@
+pub mod Words
+pub mod Intake
+pub mod Exit
+pub mod Input
+pub mod Progress
+pub mod Due

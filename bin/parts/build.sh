@@ -1,8 +1,10 @@
-# Proves the crates that the program stands on and builds it, for bin/house.
+# Proves the crates that a program stands on and builds it, for bin/house and bin/desk. The variable main has the crate
+# of the program.
+main=${main:-house_cli}
 
 # The kits with which this state was proved.
 kits='rattle-kit-13f'
-record=$here/crates/house_cli/out/house_cli.made
+record=$here/crates/$main/out/$main.made
 
 # ------------------------------------------------------------------------------------------- whether it has to be
 
@@ -37,7 +39,7 @@ crate_lines() {
 
 # The crates of the repository that the program stands on, and itself, lowest first.
 crates_below() {
-    crate_lines | awk '
+    crate_lines | awk -v main="$main" '
         { name = $1; sub(/:$/, "", name); listed[name]
           for (i = 2; i <= NF; i++) below[name] = below[name] " " $i }
         function visit(it,    parts, count, i) {
@@ -47,7 +49,7 @@ crates_below() {
             for (i = 1; i <= count; i++) visit(parts[i])
             print it
         }
-        END { visit("house_cli") }'
+        END { visit(main) }'
 }
 
 # Whether each of these crates, lowest first, stands on the one before it, so that no two can be proved side by side.
@@ -104,7 +106,7 @@ take_turn() {
     command -v flock >/dev/null 2>&1 && (: >>"$here/crates/.building") 2>/dev/null || return 0
     exec 9>>"$here/crates/.building"
     flock -n 9 && return 0
-    say "another bin/house builds in this folder; waiting until it is done"
+    say "another bin/$called builds in this folder; waiting until it is done"
     flock 9 &
     waiter=$!
     wait "$waiter" || give_up "the turn to build was not given"
@@ -146,7 +148,7 @@ untold() {
 # Whether each library of which the end was told is proved: it has a stamp then.
 are_well() {
     for name in $crates; do
-        [ "$name" = house_cli ] || [ -e "$here/crates/$name/out/rlib/stamp" ] || case " $chain" in
+        [ "$name" = "$main" ] || [ -e "$here/crates/$name/out/rlib/stamp" ] || case " $chain" in
             *" $name "*) ;;
             *) return 1 ;;
         esac
@@ -259,12 +261,16 @@ prove_wide() {
     [ "$has_failed" = no ] || lose all "a crate was not proved"
 }
 
-# What is left, one after another with all processors for each, and then the program. The stored run, of a call that
-# comes to its end, shows that what was built runs.
+# What is left, one after another with all processors for each, and then the program. A run that comes to its end, on the
+# stored input, shows that what was built runs.
 prove_chain() {
     stage=chain
     : >"$room/chain"
-    begin crates/house_cli chain "$here/crates/house_cli/stdin" rt run --jobs "$jobs" -- run
+    case $main in
+        desk_cli) tried=show ;;
+        *) tried=run ;;
+    esac
+    begin "crates/$main" chain "$here/crates/$main/stdin" rt run --jobs "$jobs" -- "$tried"
     while kill -0 "$maker" 2>/dev/null; do
         left=$(left_over)
         tell
@@ -275,6 +281,8 @@ prove_chain() {
     wait "$maker" || has_failed=yes
     maker=
     [ "$has_failed" = no ] || lose chain "a crate was not proved, or the program not linked"
+    # A journal that the run of `desk` has made.
+    rm -f "$here/crates/$main/journal"
 }
 
 lose() {

@@ -19,12 +19,21 @@ all_quoted() {
     done
 }
 
-# The forms of words that the program has: how many there are, and the first; names of files are not empty.
+# Whether a word is of the form of a name.
+is_name() {
+    [ -n "$1" ] && [ ${#1} -le 24 ] && [ -z "$(printf '%s' "$1" | LC_ALL=C tr -d 'a-z0-9-')" ] \
+        && [ -z "$(printf '%.1s' "$1" | LC_ALL=C tr -d 'a-z')" ]
+}
+
+# The forms of words that the program has: how many there are, and the first; names of files are not empty, and a name is
+# of its form.
 is_form() {
     case $#:${1-} in
         1:run | 1:feasible | 1:pairs) ;;
         3:run) [ -n "$2" ] && [ -n "$3" ] ;;
-        2:audit | 2:check) [ -n "$2" ] ;;
+        2:audit | 2:check | 2:replay) [ -n "$2" ] ;;
+        2:slip) is_name "$2" ;;
+        3:join | 3:migrate) [ -n "$2" ] && [ -n "$3" ] ;;
         *) return 1 ;;
     esac
 }
@@ -53,6 +62,17 @@ are_words() {
                 say "\`audit\` stores one file, and the input goes to standard input: bin/house audit AUDIT < FILE"
             fi
             ;;
+        slip)
+            if [ $# = 1 ]; then
+                say "the name of the applicant is missing whose slip is asked for: bin/house slip NAME < FILE"
+            elif [ $# -gt 2 ]; then
+                say "\`slip\` takes one name at a time, and the file goes to standard input: bin/house slip NAME < FILE"
+            elif [ -f "$2" ]; then
+                say "\`slip\` takes the name of an applicant, and the file goes to standard input: bin/house slip NAME < $(quoted "$2")"
+            else
+                say "$(quoted "$2") is no name: 1 to 24 of a-z, 0-9 and -, the first a letter: bin/house slip NAME < FILE"
+            fi
+            ;;
         check)
             if [ $# = 2 ]; then
                 say "the name of a file is empty: bin/house check FILE"
@@ -62,13 +82,43 @@ are_words() {
                 say "\`check\` takes one slip at a time: bin/house check FILE"
             fi
             ;;
+        replay)
+            if [ $# = 2 ]; then
+                say "the name of a file is empty: bin/house replay FILE"
+            elif [ $# = 1 ]; then
+                say "the name of the audit is missing, which is no input: bin/house replay FILE"
+            else
+                say "\`replay\` takes one audit at a time: bin/house replay FILE"
+            fi
+            ;;
+        migrate)
+            if [ $# = 3 ]; then
+                say "the name of a file is empty: bin/house migrate OLD NEW"
+            elif [ $# -gt 3 ]; then
+                say "\`migrate\` takes one audit at a time, and the name of the new one: bin/house migrate OLD NEW"
+            else
+                say "\`migrate\` takes the name of an audit, and that of the new one, which may be the same: bin/house migrate OLD NEW"
+            fi
+            ;;
+        join)
+            if [ $# = 3 ]; then
+                say "the name of a file is empty: bin/house join FILE FILE"
+            elif [ $# -gt 3 ]; then
+                say "\`join\` takes two desk files at a time, and what it writes can be joined with a third: bin/house join FILE FILE"
+            else
+                say "\`join\` takes the names of two desk files, which are no input: bin/house join FILE FILE"
+            fi
+            ;;
         '') say "a word is missing: bin/house help lists them" ;;
         *)
             low=$(printf '%s' "$1" | LC_ALL=C tr 'A-Z' 'a-z')
             if [ -n "$(help_on_form "$low")" ]; then
                 case $low in
                     audit) say "words are written in small letters: bin/house audit AUDIT < FILE" ;;
-                    check) say "words are written in small letters: bin/house check FILE" ;;
+                    slip) say "words are written in small letters: bin/house slip NAME < FILE" ;;
+                    check | replay) say "words are written in small letters: bin/house $low FILE" ;;
+                    migrate) say "words are written in small letters: bin/house migrate OLD NEW" ;;
+                    join) say "words are written in small letters: bin/house join FILE FILE" ;;
                     *) say "words are written in small letters: bin/house $low < FILE" ;;
                 esac
             elif [ -f "$1" ]; then
@@ -76,7 +126,7 @@ are_words() {
             elif [ -n "$(meaning "$1")$(set_aside "$1")$(help_on_text "$1")" ]; then
                 say "$1 is a word of the answers: bin/house help $1 says what it means"
             else
-                say "$(quoted "$1") is no word of the program; there are run, feasible, pairs, audit and check: bin/house help"
+                say "$(quoted "$1") is no word of the program; there are run, feasible, pairs, audit, slip, check, replay, migrate and join: bin/house help"
             fi
             ;;
     esac
@@ -254,9 +304,14 @@ key_line() {
     fi
 }
 
-# Which file is refused, where, and what has to stand there; the words are those of the call.
+# Which file is refused, where, and what has to stand there; the words are those of the call. In the place of `migrate`
+# `replay` is asked, which stores nothing and refuses the same.
 show_bad_file() {
-    answer=$("$program" "$@" </dev/null 2>/dev/null)
+    if [ "$1" = migrate ]; then
+        answer=$("$program" replay "$2" </dev/null 2>/dev/null)
+    else
+        answer=$("$program" "$@" </dev/null 2>/dev/null)
+    fi
     case $answer in
         'bad toml') say "$(quoted "$2") is no TOML document: a key, \`=\` and a value on a line, texts in double quotes, no key twice" ;;
         'bad key other') say "$(quoted "$2") has a key without a meaning; there are version, seats, clusters, reviews, partition and seal" ;;
@@ -292,24 +347,80 @@ show_bad_file() {
                 say "$(quoted "$2") has no line $number that a slip has to have there, or it is empty"
             fi
             ;;
-        *) say "the call file or the register is not of its form; bin/house help bad" ;;
+        'bad desk '*)
+            number=${answer#bad desk }
+            file=$2
+            [ "${number% *}" = 1 ] || file=$3
+            number=${number#* }
+            line=$(sed -n "${number}p" "$file" 2>/dev/null | cut -c 1-300 | LC_ALL=C tr '\1-\10\13-\37\177' '?')
+            say "line $number of $(quoted "$file") is off the form of a desk file, or its names do not come behind those before: $line"
+            ;;
+        'bad row '*) show_bad_row "${answer#bad row }" "$2" ;;
+        *) say "a file is not of its form; bin/house help bad" ;;
     esac
 }
 
-# One line on what happened, where the program's own answer may not say it. With names of files the answer may be of them.
+# The row $1 of the audit $2, as it can be shown.
+row_of() {
+    sed -n "$1{p;q;}" "$2" 2>/dev/null | head -c 300 | LC_ALL=C tr '\1-\11\13-\37\177-\377' '?'
+}
+
+# What is wrong with the row $1 of the audit $2, which is the first off its form.
+show_bad_row() {
+    file=$(quoted "$2")
+    row=$(row_of "$1" "$2")
+    whole=$(wc -l <"$2")
+    case $(row_of $(($1 - 1)) "$2") in
+        '{"report":'*) behind=report ;;
+        *) behind= ;;
+    esac
+    if [ ! -s "$2" ]; then
+        say "$file is empty"
+    elif [ "$1" -gt "$whole" ] && [ -n "$row" ]; then
+        say "row $1 of $file has no line feed at its end, as where a file was cut: $row"
+    elif [ "$1" -gt "$whole" ]; then
+        say "$file has no row $1: the row with the report is missing, as where a file was cut"
+    elif [ -n "$behind" ]; then
+        say "row $1 of $file stands behind the report, where nothing may stand: $row"
+    else
+        say "row $1 of $file is off the form of an audit: $row"
+    fi
+    [ "$1" != 1 ] || say 'row 1 is {"format":"peer-house-audit","version":2}, or has the version 1'
+}
+
+# Which row of the audit $1 is the first that is not as its lines have it. Asked is `replay`, which stores nothing.
+show_difference() {
+    row=$("$program" replay "$1" </dev/null 2>/dev/null | sed -n '1s/^differs \([0-9]*\)$/\1/p')
+    file=$(quoted "$1")
+    case $row:$(row_of "${row:-1}" "$1") in
+        :*) say "the audit is not that of its lines; bin/house help differs" ;;
+        1:*) say "the header of $file is not written as the program writes it: \`kept\` stands there, \`right\` has to" ;;
+        *:'{"report":'*) say "row $row of $file has another report than its lines come to: \`kept\` stands there, \`right\` has to" ;;
+        *) say "row $row of $file, of its line $((row - 1)), is the first that is not as its lines have it: \`kept\` stands there, \`right\` has to" ;;
+    esac
+}
+
+# One line on what happened, where the program's own answer may not say it. Behind the status stands what the answer may
+# be of: `files` beside the input, or the word that reads no input, or stores a file.
 explain() {
-    and_files=
-    or_a_file=
+    unread="the input"
+    long="the input has more than 16,777,216 bytes or 1,048,576 lines"
     or_the_audit=
-    [ "${2-}" != audit ] || or_the_audit=", or it was and the audit could not be stored"
-    [ "${2-}" != files ] || { and_files=" or a file"; or_a_file=", or a file has more than 16,777,216 bytes"; }
+    case ${2-} in
+        files) unread="the input or a file" long="$long, or a file has more than 16,777,216 bytes" ;;
+        check | join) unread="a file" long="a file has more than 16,777,216 bytes" ;;
+        replay | migrate) unread="the audit" long="the audit has more than 268,435,456 bytes" ;;
+    esac
+    case ${2-} in
+        audit | migrate) or_the_audit=", or it was and the audit could not be stored" ;;
+    esac
     case $1 in
         1) say "these words are none of the program's; bin/house help lists them" ;;
         3) say "no valid assignment exists; docs/running-a-call.md says how to read this shortage" ;;
-        4) say "the input$and_files could not be read, so nothing was written; see the file or the command before the pipe" ;;
+        4) say "$unread could not be read, so nothing was written; see the file or the command before the pipe" ;;
         5) say "the output could not be written whole$or_the_audit; see the disk, or the command behind the pipe" ;;
         6) say "there was not enough memory, so nothing was written" ;;
-        8) say "the input has more than 16,777,216 bytes or 1,048,576 lines$or_a_file" ;;
+        8) say "$long" ;;
         129 | 1[3-5][0-9]) say "the program was ended by the signal $(($1 - 128))" ;;
     esac
 }

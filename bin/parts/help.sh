@@ -11,7 +11,12 @@ house reads a command file on standard input and writes its answer to standard o
     bin/house feasible < FILE    says whether the call has a valid assignment
     bin/house pairs < FILE       writes the assignment, a line for each pair
     bin/house audit AUDIT < FILE writes the report as `run` does, and then the audit of the run into the file AUDIT
+    bin/house slip NAME < FILE   runs the call and writes the slip of the applicant NAME, from which its chance can be
+                                 checked without FILE
     bin/house check FILE         says whether the chance that a slip prints is the right one
+    bin/house replay FILE        runs the lines of an audit again, and says whether it is the audit of its lines
+    bin/house migrate OLD NEW    does the same, and stores their audit of the second version as NEW
+    bin/house join FILE FILE     writes the desk file that has the reviews of two desks
     bin/house help [WORD]        this page, or what a word means: one of the above, a reason, a kind of review lines
                                  that are set aside, a text such as `short`; `reasons`, `kinds` and `status` list them
     bin/house version            the commit and the toolchain
@@ -27,19 +32,22 @@ TEXT
 statuses() {
     cat <<'TEXT'
 Exit status, and what is written:
-     0  done                                  the report, `feasible`, the pairs, or `slip yes`
+     0  done                                  the report, `feasible`, the pairs, a slip or `unlisted`, `slip yes`, a
+                                              desk file, `same lines N ENDING` or `migrated lines N`
      1  the words are none of the above       nothing
      2  a line of the input, or its end, is
         refused                               `refused LINE REASON`
      3  no valid assignment exists            the shortage, in three lines
      4  the input or a file could not be
         read                                  nothing
-     5  the output could not be written       the front of what was due; with `audit` also where the audit could not
-                                              be stored: then the whole report
+     5  the output could not be written       the front of what was due; with `audit` and `migrate` also where the
+                                              audit could not be stored: then the whole text
      6  there was not enough memory           nothing
+     7  an audit is not that of its lines     `differs ROW`, the row as it is kept, and the right one
      8  the input or a file is too long       `too-long`
-     9  a file is not of its form             `bad toml`, `bad key KEY`, `bad record R` or
-                                              `bad slip LINE`
+     9  a file is not of its form             `bad toml`, `bad key KEY`, `bad record R`,
+                                              `bad slip LINE`, `bad desk FILE LINE` or
+                                              `bad row R`
     10  a slip prints a wrong chance          `wrong W/D`, the right one
     70  the program could not be built        nothing; only this script ends so
 TEXT
@@ -130,11 +138,44 @@ answer no file is changed, but that where the audit cannot be stored (exit statu
 audit has every review in clear.
 TEXT
             ;;
+        slip) cat <<'TEXT'
+house slip NAME < FILE
+Does as `run`, and in the place of the report it writes the slip of the applicant NAME: its chance, the applicants of its
+cluster, and the whole ballots of all persons who reviewed one of them; or the line `unlisted` where NAME is no
+applicant's. No review by NAME's own person is in it. `check` says of a slip whether its chance is right. Who has it sees
+what these persons gave to whom.
+
+slip yes
+What `check` says of a slip whose chance is the right one by its own lines; else it says `wrong W/D`.
+TEXT
+            ;;
         check) cat <<'TEXT'
 house check FILE
 Reads no input. Says of the slip FILE, by its own lines, whether the chance that it prints is the right one: `slip yes`,
 or `wrong W/D` with the right one and exit status 10. Whether its ballots are those that were handed in, a slip does
 not tell: docs/checking.md says what to hold them against.
+TEXT
+            ;;
+        replay) cat <<'TEXT'
+house replay FILE
+Reads no input. Runs the lines that the audit FILE holds again, and says `same lines N done` where FILE is their audit,
+byte for byte, N being how many lines it holds; `refused` or `short` stands there where they end so. Else it says which
+row is the first that differs, with exit status 7: bin/house help differs. Who wrote a line, no audit tells.
+TEXT
+            ;;
+        migrate) cat <<'TEXT'
+house migrate OLD NEW
+Reads no input. Replays the audit OLD, of either version, and where it is that of its lines says `migrated lines N`, and
+then stores their audit of the second version as NEW, in the place of what was there; NEW may be OLD. With any other
+answer, which is that of `replay`, no file is changed, but that where the new audit cannot be stored (exit status 5) NEW
+may hold anything.
+TEXT
+            ;;
+        join) cat <<'TEXT'
+house join FILE FILE
+Reads no input. Writes the desk file that has the entries of both: of two for one pair of a reviewer and a proposal that
+of the higher revision, and with equal revisions that of the more points. Which file is named first, or one named twice,
+changes nothing, and what is written can be joined with further files. docs/formats.md, "Desk files".
 TEXT
             ;;
     esac
@@ -157,18 +198,43 @@ TEXT
         too-long) cat <<'TEXT'
 too-long
 The input has more than 16,777,216 bytes or 1,048,576 lines, and no line within these limits ended the run; or a call
-file or a register has more than 16,777,216 bytes.
+file, a register, a slip or a desk file has more than 16,777,216 bytes, or an audit more than 268,435,456.
 TEXT
             ;;
         bad) cat <<'TEXT'
-bad toml, bad key KEY, bad record R, bad slip LINE
+bad toml, bad key KEY, bad record R, bad slip LINE, bad desk FILE LINE, bad row R
 The call file is no TOML document; what it has under KEY, or lacks there, is not as it has to be (`other` is any key
 without a meaning); the record R of the register is not of its form. Records are counted from 1, the header among them,
 blank lines not, and a quoted field may go over several lines. docs/formats.md, "The call file and the register". Of a
-slip LINE is the first line off its form, from 1, or one more than it has where no member is there; "Slips" there.
+slip LINE is the first line off its form, from 1, or one more than it has where no member is there; "Slips" there. Of
+desk files FILE is 1 for the first that is named, and LINE its first line off the form; "Desk files" there. Of an audit
+R is the first row off its form, from 1, bytes behind the last line feed being a row, or one more than it has where its
+report is missing; "The audit file" there.
 TEXT
             ;;
-        slip | wrong) cat <<'TEXT'
+        same) cat <<'TEXT'
+same lines N ENDING
+The file is the audit of the N lines that it holds. ENDING is how they end: `done` with a report, `refused` or `short`.
+TEXT
+            ;;
+        differs) cat <<'TEXT'
+differs ROW, and the lines `kept ..` and `right ..`
+All rows of the file are of the form of an audit, and it is not that of its lines. ROW is the first row, from 1, that
+is not as the lines of the file have it: behind `kept` as it stands in the file, behind `right` as it stands in their
+audit. The header is row 1, and line L of the run is row L + 1.
+TEXT
+            ;;
+        migrated) cat <<'TEXT'
+migrated lines N
+The old file is the audit of the N lines that it holds, and their audit of the second version is stored.
+TEXT
+            ;;
+        unlisted) cat <<'TEXT'
+unlisted
+No applicant of the call has the name behind `slip`. A person's name is its applicant's only where it applied under it.
+TEXT
+            ;;
+        wrong) cat <<'TEXT'
 slip yes
 wrong W/D
 The chance that the slip prints is the right one by the slip's own lines; or it is another, and W of D draws is right.
@@ -184,8 +250,8 @@ TEXT
 
 help_on() {
     case $1 in
-        run | feasible | pairs | audit | check) help_on_form "$1" ;;
-        refused | short | too-long | aside | bad | slip | wrong) help_on_text "$1" ;;
+        run | feasible | pairs | audit | slip | check | replay | migrate | join) help_on_form "$1" ;;
+        refused | short | too-long | aside | bad | unlisted | wrong | same | differs | migrated) help_on_text "$1" ;;
         reason | reasons) reasons ;;
         kind | kinds) kinds ;;
         status | statuses) statuses ;;

@@ -44,6 +44,7 @@ HasCount n (Some form.Audit) = n ≡ 2
 HasCount n (Some (form.Slip name)) = Unit {0}
 HasCount n (Some (form.Judged d)) = n ≡ count_of d
 HasCount n (Some form.Join) = n ≡ 3
+HasCount n (Some form.Reserve) = n ≡ 2
 
 by_test : (test : Bool) (n : ℕ) (asked others : Option Form) → (test ≡ true → HasCount n asked) → HasCount n others → HasCount n (cond test asked others)
 by_test true n asked others h other = h refl
@@ -64,7 +65,8 @@ words_count words =
     (by_test (name_one_file (codes "check") words) (length words) _ _ (one_file (codes "check") words)
     (by_test (name_one_file (codes "replay") words) (length words) _ _ (one_file (codes "replay") words)
     (by_test (name_two_files (codes "migrate") words) (length words) _ _ (two_files (codes "migrate") words)
-    (by_test (name_two_files (codes "join") words) (length words) _ _ (two_files (codes "join") words) (by_name (length words) (slip_name words))))))))))
+    (by_test (name_two_files (codes "join") words) (length words) _ _ (two_files (codes "join") words)
+    (by_test (name_one_file (codes "reserve") words) (length words) _ _ (one_file (codes "reserve") words) (by_name (length words) (slip_name words)))))))))))
 
 length_texts : {Y : Type 0} (words : List (String Y)) → length (texts words) ≡ length words
 length_texts [] = refl
@@ -80,6 +82,10 @@ three_strings {Y} words is = strings_count words form.Opened is
 -- an audit is stored under the second of two words
 pub audited_strings : {Y : Type 0} (words : List (String Y)) → form_of (texts words) ≡ Some form.Audit → length words ≡ 2
 audited_strings {Y} words is = strings_count words form.Audit is
+
+-- a file of withdrawals is named by the second of two words
+pub reserve_strings : {Y : Type 0} (words : List (String Y)) → form_of (texts words) ≡ Some form.Reserve → length words ≡ 2
+reserve_strings {Y} words is = strings_count words form.Reserve is
 
 -- two audits are named by the second and the third of three words
 pub migrated_strings : {Y : Type 0} (words : List (String Y)) → form_of (texts words) ≡ Some (form.Judged document.OldAudit) → length words ≡ 3
@@ -134,6 +140,9 @@ ready_name P f d names is ready = subst (λ f. All P (loads (Some f) names)) is 
 
 pub ready_join : (P : Text → Type 0) (f : Form) (names : List Text) → f ≡ form.Join → All P (loads (Some f) names) → All P names
 ready_join P f names is ready = subst (λ f. All P (loads (Some f) names)) is ready
+
+pub ready_reserve : (P : Text → Type 0) (f : Form) (one : Text) (names : List Text) → f ≡ form.Reserve → names ≡ one ∷ [] → All P (loads (Some f) names) → P one
+ready_reserve P f one names is are ready = All-head P one [] (subst (All P) are (subst (λ f. All P (loads (Some f) names)) is ready))
 
 -- the words of a join name a file
 pub join_names : (words : List Text) → form_of words ≡ Some form.Join → names_in words ≡ [] → ⊥

@@ -6,6 +6,7 @@ use Rattle.std.specs.Result.{result_ok}
 use Rattle.std.proofs.lemmas.Option.{IfSome_then}
 use Rattle.house_io.specs.Faults.{Rose}
 use Rattle.house_io.specs.Sink.{AppendsWhereTold}
+use Rattle.house_base.specs.declared.answer.Reason.{Reason}
 use Rattle.house_base.specs.Text.{Text}
 use Rattle.house_model.specs.declared.goal.Goal.{Goal}
 use Rattle.house_model.specs.declared.goal.Goal.TheVariants as goal
@@ -24,15 +25,19 @@ use Rattle.house_top.specs.declared.status.Status.{Status}
 use Rattle.house_top.specs.declared.status.Status.TheVariants as status
 use Rattle.house_top.specs.Answer.{Answers, IsAnswerTo, IsAnswered, IsShortOrFault, IsWhole}
 use Rattle.house_top.specs.Due.{IsDueText, IsRunText, IsTextOfRun, IsTextOpened, Run, due_status, end_of_run, hears, is_for_report, lines_of, opened_run, printed, reported, run_behind, run_of}
-use Rattle.house_top.specs.Due.{status_of_end, status_of_run, status_opened}
+use Rattle.house_top.specs.Due.{leaving_asked, status_left, status_of_end, status_of_run, status_opened, status_reserved}
+use Rattle.house_top.specs.Leaving.{status_of_reserve}
 use Rattle.house_io.specs.Files.{Contents}
 use Rattle.house_top.specs.Given.{Given, told}
-use Rattle.house_top.specs.Opening.{opening_of}
+use Rattle.house_top.specs.Opening.{file_at, loaded, opening_of}
 use Rattle.house_top.specs.Promise.{Counts, EndsAsDue, Faults, IsCaused, IsDue, IsWellAssigned, KeepsFiles, KeepsThePromise, LoadRose, ReadRose, ReadsFarEnough, StoreRose, WritesWhatIsDue}
 use Rattle.house_top.specs.Words.{loads}
 use Rattle.house_top.proofs.AskLemmas.{heard_by, reported_by}
 use Rattle.house_top.proofs.AnswerLemmas.{ends_short_of, goes_to_report, taken_done}
+use Rattle.house_top.proofs.ReserveLemmas.{begins, heard_left, left_done, left_told, reported_left}
 use Rattle.house_top.proofs.SlipLemmas.{judged_right, slip_is_due}
+use Rattle.reserve_list.specs.Told.{reserve_told}
+use Rattle.reserve_list.proofs.ToldLemmas.{seats-passed_on}
 use Rattle.input_run.proofs.EndLemmas.{never_drawn}
 use Rattle.input_run.proofs.FrontLemmas.{heard_within}
 use Rattle.input_run.proofs.TellLemmas.{outcome_by}
@@ -87,16 +92,17 @@ for_told (Some x) h = h x
 
 -- The runs of the forms.
 
--- the run of a call ends with its status, or its input is too long
+-- The run of a call ends with its status; or its input is too long; or it is done, and what stands behind its report decides.
 RunsTo : Goal → Lines → Status → Type 0
-RunsTo g all s = (s ≡ status_of_end (Some (end_of g all))) ⊎ ((s ≡ status.TooLong) × (ends_run g all ≡ false))
+RunsTo g all s = (s ≡ status_of_end (Some (end_of g all))) ⊎ (((s ≡ status.TooLong) × (ends_run g all ≡ false))
+    ⊎ ((status_of_end (Some (end_of g all)) ≡ status.Done) × (s ≡ status.Short → ⊥)))
 
 run_by : (g : Goal) (opening : Lines) (input : Text) (over ends : Bool) → is_over input ≡ over → ends_run g (opening ++ heard input) ≡ ends →
     RunsTo g (opening ++ heard input) (status_of_end (outcome g opening input))
 unfolding RunsTo
 run_by g opening input false ends h e = inl (ap status_of_end (outcome_by g opening input false ends h e))
 run_by g opening input true true h e = inl (ap status_of_end (outcome_by g opening input true true h e))
-run_by g opening input true false h e = inr (ap status_of_end (outcome_by g opening input true false h e), e)
+run_by g opening input true false h e = inr (inl (ap status_of_end (outcome_by g opening input true false h e), e))
 
 abbrev a_run : Goal → Lines → Bool → Bool → Run
 a_run g opening hears reports = record { goal = g; opening = opening; hears = hears; reports = reports }
@@ -116,6 +122,43 @@ opened_ends : (opening : Result Lines Status) (input : Text) →
 opened_ends (Ok opening) input = run_ends goal.Run opening (not (ends_run goal.Run opening)) true input
 opened_ends (Err s) input = tt
 
+-- the status of what becomes of a file is never short
+not_short : (r : Result Text (ℕ × Reason)) → status_of_reserve r ≡ status.Short → ⊥
+not_short (Ok text) h = cc
+not_short (Err fault) h = cc
+
+-- a run that is told to be done is
+told_done : (input : Text) (s : Status) → RunsTo goal.Run (heard input) s → s ≡ status.Done → status_of_end (Some (end_of goal.Run (heard input))) ≡ status.Done
+unfolding RunsTo
+told_done input s (inl ends) done = sym ends ∙ done
+told_done input s (inr (inl long)) done = absurd (let wrong : status.TooLong ≡ status.Done = sym long.0 ∙ done in cc)
+told_done input s (inr (inr behind)) done = behind.0
+
+done_left : (bytes input : Text) → status_of_end (Some (end_of goal.Run (heard input))) ≡ status.Done → RunsTo goal.Run (heard input) (status_of_reserve (reserve_told bytes (heard input)))
+unfolding RunsTo
+done_left bytes input done = inr (inr (done, not_short (reserve_told bytes (heard input))))
+
+-- what is run before a file of withdrawals is taken
+left_runs : (bytes input : Text) (s : Status) → RunsTo goal.Run (heard input) s → RunsTo goal.Run (heard input) (status_left bytes s input)
+left_runs bytes input status.Done runs = done_left bytes input (told_done input status.Done runs refl)
+left_runs bytes input status.Usage runs = runs
+left_runs bytes input (status.Refused line reason) runs = runs
+left_runs bytes input status.Short runs = runs
+left_runs bytes input status.ReadFault runs = runs
+left_runs bytes input status.WriteFault runs = runs
+left_runs bytes input status.Memory runs = runs
+left_runs bytes input status.TooLong runs = runs
+left_runs bytes input (status.BadFile why) runs = runs
+left_runs bytes input (status.Differs row) runs = runs
+left_runs bytes input (status.Wrong worth) runs = runs
+
+abbrev runs_left : Result Text Status → Text → Option (Goal × Lines)
+runs_left file input = option_map (λ (run : Run). (run.goal, lines_of run input)) (option_map (λ (bytes : Text). run_behind goal.Run []) (result_ok file))
+
+reserved_runs : (file : Result Text Status) (input : Text) → IfSome (runs_left file input) (λ run. RunsTo run.0 run.1 (status_reserved file input))
+reserved_runs (Ok bytes) input = left_runs bytes input (status_of_run (run_behind goal.Run []) input) (run_ends goal.Run [] true true input)
+reserved_runs (Err s) input = tt
+
 due_runs : (asked : Option Form) (given : Given) → IfSome (run_of asked given) (λ run. RunsTo run.0 run.1 (due_status asked given))
 unfolding due_status
 due_runs None given = tt
@@ -125,6 +168,7 @@ due_runs (Some form.Audit) given = run_ends goal.Run [] true true given.input
 due_runs (Some (form.Slip name)) given = run_ends goal.Run [] true true given.input
 due_runs (Some (form.Judged d)) given = tt
 due_runs (Some form.Join) given = tt
+due_runs (Some form.Reserve) given = reserved_runs (loaded (file_at given.files 0)) given.input
 
 short_end : (e : Ended) → status_of_end (Some e) ≡ status.Short → e ≡ Ended.Short
 short_end Ended.Done h = absurd (let wrong : ⊥ = cc in wrong)
@@ -141,19 +185,26 @@ done_end Ended.Settled h = inr refl
 comes_short : (g : Goal) (all : Lines) (s : Status) → RunsTo g all s → s ≡ status.Short → ComesShort g (looked_at g all)
 unfolding RunsTo
 comes_short g all s (inl ends) short = (shortage-ends g all).0 (short_end (end_of g all) (sym ends ∙ short))
-comes_short g all s (inr long) short = absurd (let wrong : status.TooLong ≡ status.Short = sym long.0 ∙ short in cc)
+comes_short g all s (inr (inl long)) short = absurd (let wrong : status.TooLong ≡ status.Short = sym long.0 ∙ short in cc)
+comes_short g all s (inr (inr behind)) short = absurd (behind.1 short)
 
 told_short : (g : Goal) (all : Lines) (s : Status) → RunsTo g all s → ComesShort g (looked_at g all) → IsShortOrFault s
 unfolding RunsTo
 told_short g all s (inl ends) comes = subst IsShortOrFault (sym (ends ∙ ap (λ e. status_of_end (Some e)) ((shortage-ends g all).1 comes))) tt
-told_short g all s (inr long) comes =
+told_short g all s (inr (inr behind)) comes =
+    absurd (let wrong : status.Short ≡ status.Done = sym (ap (λ e. status_of_end (Some e)) ((shortage-ends g all).1 comes)) ∙ behind.0 in cc)
+told_short g all s (inr (inl long)) comes =
     absurd (let wrong : false ≡ true = sym long.1 ∙ ends_short_of g all ((shortage-ends g all).1 comes) in cc)
 
 well_assigned : (g : Goal) (all : Lines) (s : Status) → RunsTo g all s → s ≡ status.Done → (g ≡ goal.Run → AreOfCall all) → IsWellAssigned g (taken g all)
 unfolding RunsTo
-well_assigned g all s (inr long) done call = absurd (let wrong : status.TooLong ≡ status.Done = sym long.0 ∙ done in cc)
-well_assigned g all s (inl ends) done call = by_goal g call (done_end (end_of g all) (sym ends ∙ done))
+well_assigned g all s runs done call = by_goal g call (done_end (end_of g all) (ended_done runs))
   where
+    ended_done : RunsTo g all s → status_of_end (Some (end_of g all)) ≡ status.Done
+    ended_done (inl ends) = sym ends ∙ done
+    ended_done (inr (inl long)) = absurd (let wrong : status.TooLong ≡ status.Done = sym long.0 ∙ done in cc)
+    ended_done (inr (inr behind)) = behind.0
+
     by_goal : (g : Goal) → (g ≡ goal.Run → AreOfCall all) → (end_of g all ≡ Ended.Done) ⊎ (end_of g all ≡ Ended.Settled) → IsWellAssigned g (taken g all)
     by_goal goal.Run call end = let of = call refl in subst (IsWellAssigned goal.Run) (sym (taken_done all of.done)) (assigned_validly all of)
     by_goal goal.Pairs call (inl drawn) = absurd (never_drawn goal.Pairs all refl drawn)
@@ -168,6 +219,10 @@ opened_is_reported : (opening : Result Lines Status) (input : Text) →
 opened_is_reported (Ok opening) input call = λ run. call
 opened_is_reported (Err s) input call = tt
 
+reserve_is_reported : (file : Result Text Status) (input : Text) → IfSome (reported_left file input) AreOfCall → IfSome (runs_left file input) (λ run. run.0 ≡ goal.Run → AreOfCall run.1)
+reserve_is_reported (Ok bytes) input call = λ run. call
+reserve_is_reported (Err s) input call = tt
+
 run_is_reported : (asked : Option Form) (given : Given) → IfSome (reported asked given) AreOfCall → IfSome (run_of asked given) (λ run. run.0 ≡ goal.Run → AreOfCall run.1)
 run_is_reported None given call = tt
 run_is_reported (Some (form.Input goal.Run)) given call = λ run. call
@@ -178,6 +233,7 @@ run_is_reported (Some form.Audit) given call = λ run. call
 run_is_reported (Some (form.Slip name)) given call = λ run. call
 run_is_reported (Some (form.Judged d)) given call = tt
 run_is_reported (Some form.Join) given call = tt
+run_is_reported (Some form.Reserve) given call = reserve_is_reported (loaded (file_at given.files 0)) given.input call
 
 -- The reports of the forms.
 
@@ -219,6 +275,7 @@ report_is_due (Some form.Audit) given text done h call = run_report (run_behind 
 report_is_due (Some (form.Slip name)) given text done h call = tt
 report_is_due (Some (form.Judged d)) given text done h call = tt
 report_is_due (Some form.Join) given text done h call = tt
+report_is_due (Some form.Reserve) given text done h call = tt
 
 not_over : (opening : Lines) (input : Text) (over : Bool) → is_over input ≡ over → ends_run goal.Run (opening ++ heard input) ≡ false →
     status_of_end (outcome goal.Run opening input) ≡ status.Done → is_over input ≡ false
@@ -241,6 +298,11 @@ all_opened : (opening : Result Lines Status) (input : Text) → status_opened op
 all_opened (Ok opening) input done call = all_of_run opening (not (ends_run goal.Run opening)) input done call
 all_opened (Err s) input done call = tt
 
+all_left : (file : Result Text Status) (input : Text) → status_reserved file input ≡ status.Done → IfSome (reported_left file input) AreOfCall →
+    IfSome (reported_left file input) (λ all. IfSome (heard_left file) (λ h. all ≡ h.1 ++ lines input))
+all_left (Ok bytes) input done call = all_of_run [] true input (left_done bytes (status_of_run (run_behind goal.Run []) input) input done) call
+all_left (Err s) input done call = tt
+
 all_lines : (asked : Option Form) (given : Given) → due_status asked given ≡ status.Done → IfSome (reported asked given) AreOfCall →
     IfSome (reported asked given) (λ all. IfSome (hears asked given) (λ h. all ≡ h.1 ++ lines given.input))
 unfolding due_status
@@ -253,6 +315,7 @@ all_lines (Some form.Audit) given done call = all_of_run [] true given.input don
 all_lines (Some (form.Slip name)) given done call = all_of_run [] true given.input done call
 all_lines (Some (form.Judged d)) given done call = tt
 all_lines (Some form.Join) given done call = tt
+all_lines (Some form.Reserve) given done call = all_left (loaded (file_at given.files 0)) given.input done call
 
 -- What a report is written of is a whole call.
 printed_call : (asked : Option Form) (given : Given) → IfSome (reported asked given) AreOfCall → IfSome (printed asked given) AreOfCall
@@ -263,6 +326,7 @@ printed_call (Some form.Audit) given call = call
 printed_call (Some (form.Slip name)) given call = tt
 printed_call (Some (form.Judged d)) given call = call
 printed_call (Some form.Join) given call = call
+printed_call (Some form.Reserve) given call = tt
 
 -- Where the words are of no form.
 
@@ -308,6 +372,8 @@ usage_promise asked given before after none = subst (λ asked. KeepsThePromise a
   seal_is_kept = λ is. for_told given (λ given. tt);
   own_reviews_are_in_no_slip = λ is. for_told given (λ given. tt);
   right_slips_print_chances = λ is. for_told given (λ given. tt);
+  report_stands_first = λ is. for_told given (λ given. tt);
+  seats_are_passed_on = λ is. for_told given (λ given. tt);
   all_lines_are_run = λ is. for_told given (λ given. tt);
   assignment_is_valid = λ is. for_told given (λ given. tt);
   short_for_want_of_an_assignment = λ is. for_told given (λ given. tt);
@@ -322,7 +388,7 @@ usage_reads {I} left asked given loads old none = subst (λ asked. ReadsFarEnoug
   read_to_end = λ is. for_told given (λ given. tt);
   usage_reads_nothing = λ is. refl;
   unheard_is_unread = for_told given (λ given unheard. refl);
-  bad_file_reads_nothing = λ why is. refl;
+  bad_file_reads_nothing = λ why is other. refl;
 })
 
 pub usage_files : {F : Type 0} (shown : F → Option Contents) (names : List Text) (old : F) → KeepsFiles shown names old old
@@ -405,6 +471,8 @@ fault_promise asked given s before after not_done not_short faulty = record {
   seal_is_kept = λ is. absurd (not_done is);
   own_reviews_are_in_no_slip = λ is. absurd (not_done is);
   right_slips_print_chances = λ is. absurd (not_done is);
+  report_stands_first = λ is. absurd (not_done is);
+  seats_are_passed_on = λ is. absurd (not_done is);
   all_lines_are_run = λ is. absurd (not_done is);
   assignment_is_valid = λ is. absurd (not_done is);
   short_for_want_of_an_assignment = λ is. absurd (not_short is);
@@ -462,6 +530,12 @@ whole_promise asked given s text before after answers appended = record {
   own_reviews_are_in_no_slip = λ done. IfSome_then given answers.as_due (λ given answer.
       slip_is_due asked given text before after (sym answer.ends ∙ done) answer.writes (answer.of_call done) appended);
   right_slips_print_chances = λ done. IfSome_then given answers.as_due (λ given answer. judged_right asked given (sym answer.ends ∙ done));
+  report_stands_first = λ done. IfSome_then given answers.as_due (λ given answer. IfSome_then (leaving_asked asked given)
+      (left_told asked given text (sym answer.ends ∙ done) answer.writes (answer.of_call done))
+      (λ left told. (text, begins left.1 left.0 text told.1 (seats-passed_on left.1 left.0 text told.1 told.0), appended)));
+  seats_are_passed_on = λ done. IfSome_then given answers.as_due (λ given answer. IfSome_then (leaving_asked asked given)
+      (left_told asked given text (sym answer.ends ∙ done) answer.writes (answer.of_call done))
+      (λ left told. (text, seats-passed_on left.1 left.0 text told.1 told.0, appended)));
   all_lines_are_run = λ done. IfSome_then given answers.as_due (λ given answer. all_lines asked given (sym answer.ends ∙ done) (answer.of_call done));
   assignment_is_valid = λ done. IfSome_then given answers.as_due (λ given answer.
       two_told (run_of asked given) (due_runs asked given) (run_is_reported asked given (answer.of_call done))

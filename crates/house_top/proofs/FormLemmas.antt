@@ -122,7 +122,7 @@ of_run run input (Ok answer) answers = answers.answered
 of_run run input (Err fault) answers = tt
 
 -- what an input is where a run of it is told to be too long
-long_input : (r : Result Answer InputFault) (g : Goal) (opening : Lines) (input : Option Text) → IfOk r (λ answer. AnswersRun (run_behind g opening) input answer.status answer.text.items) →
+pub long_input : (r : Result Answer InputFault) (g : Goal) (opening : Lines) (input : Option Text) → IfOk r (λ answer. AnswersRun (run_behind g opening) input answer.status answer.text.items) →
     status_of_answer r ≡ status.TooLong → IfSome input (λ input. is_over input ≡ true)
 long_input r g opening None answers long = tt
 long_input (Ok answer) g opening (Some input) answers long = outcome_over g opening input (sym answers.as_run.ends ∙ long)
@@ -335,7 +335,7 @@ ended_reads {I} left r lines names files loads old new ends opens of reads =
       read_to_end = λ is. absurd (done.2 is);
       usage_reads_nothing = λ is. absurd (never_usage r of is);
       unheard_is_unread = for_some (told (Some form.Opened) names (left old) files) (λ given unheard. done.0);
-      bad_file_reads_nothing = λ why is. done.0;
+      bad_file_reads_nothing = λ why is other. done.0;
     }
 
 -- where the run goes on, the input is heard behind the opening lines
@@ -397,7 +397,7 @@ refused_reads {I} left t names files loads old opens answered not_done = record 
   read_to_end = λ is. absurd (not_done is);
   usage_reads_nothing = λ is. refl;
   unheard_is_unread = for_some (told (Some form.Opened) names (left old) files) (λ given unheard. refl);
-  bad_file_reads_nothing = λ why is. refl;
+  bad_file_reads_nothing = λ why is other. refl;
 }
   where
     unheard : (t : Status) → IfSome (heard_by (Err t)) (λ h. DecidedWhereTold h.0 h.1 (left old) (left old))
@@ -413,7 +413,7 @@ fault_reads {I} left faults.Failed names files loads old failed = record {
   read_to_end = λ is. absurd (let wrong : ⊥ = cc in wrong);
   usage_reads_nothing = λ is. refl;
   unheard_is_unread = for_some (told (Some form.Opened) names (left old) files) (λ given unheard. refl);
-  bad_file_reads_nothing = λ why is. refl;
+  bad_file_reads_nothing = λ why is other. refl;
 }
 fault_reads {I} left faults.Memory names files loads old failed = record {
   read_far_enough = λ read kept. absurd (kept refl);
@@ -422,7 +422,7 @@ fault_reads {I} left faults.Memory names files loads old failed = record {
   read_to_end = λ is. absurd (let wrong : ⊥ = cc in wrong);
   usage_reads_nothing = λ is. refl;
   unheard_is_unread = for_some (told (Some form.Opened) names (left old) files) (λ given unheard. refl);
-  bad_file_reads_nothing = λ why is. refl;
+  bad_file_reads_nothing = λ why is other. refl;
 }
 
 -- Of files that are opened.

@@ -121,7 +121,7 @@ joined_reads {I} left r names files loads old said failed =
       read_to_end = λ is. for_some given (λ given. tt);
       usage_reads_nothing = λ is. refl;
       unheard_is_unread = for_some given (λ given unheard. refl);
-      bad_file_reads_nothing = λ why is. refl;
+      bad_file_reads_nothing = λ why is other. refl;
     }
 
 -- No file is changed, and one is loaded.

@@ -117,7 +117,7 @@ judged_reads {I} left r d name more files loads old said failed = record {
   read_to_end = λ is. for_some (told (Some (form.Judged d)) (name ∷ more) (left old) files) (λ given. tt);
   usage_reads_nothing = λ is. refl;
   unheard_is_unread = for_some (told (Some (form.Judged d)) (name ∷ more) (left old) files) (λ given unheard. refl);
-  bad_file_reads_nothing = λ why is. refl;
+  bad_file_reads_nothing = λ why is other. refl;
 }
   where
     only_failed : (r : Result Answer InputFault) → IfOk r (λ answer. IsSaid d files name answer.status answer.text.items) → status_of_answer r ≡ status.ReadFault → r ≡ Err faults.Failed
@@ -135,7 +135,7 @@ unread {I} left d given input s faults old ends = record {
   read_to_end = λ is. for_some given (λ given. tt);
   usage_reads_nothing = λ is. refl;
   unheard_is_unread = for_some given (λ given unheard. refl);
-  bad_file_reads_nothing = λ why is. refl;
+  bad_file_reads_nothing = λ why is other. refl;
 }
 
 -- What is to be stored behind it.

@@ -8,5 +8,6 @@ pub mod JoinedLemmas
 pub mod JudgedLemmas
 pub mod LoadLemmas
 pub mod ReadLemmas
+pub mod ReserveLemmas
 pub mod SlipLemmas
 pub mod StoreLemmas

@@ -103,6 +103,7 @@ not_storing (Some (form.Judged document.Slip)) other others = refl
 not_storing (Some (form.Judged document.Audit)) other others = refl
 not_storing (Some (form.Judged document.OldAudit)) other others = absurd (others refl)
 not_storing (Some form.Join) other others = refl
+not_storing (Some form.Reserve) other others = refl
 
 -- the audit of what is given is to be stored where the call is done
 pub audit_files : (names : List Text) (input : Option Text) (files : Option Contents) (a : Filed) → StoresAudit input a → FilesWhatIsDue (Some form.Audit) (told (Some form.Audit) names input files) a
@@ -126,6 +127,7 @@ load_later (Some (form.Slip name)) first mid last le more rose = absurd rose
 load_later (Some form.Opened) first mid last le more rose = Rose-until_later first mid last le rose more
 load_later (Some (form.Judged d)) first mid last le more rose = Rose-until_later first mid last le rose more
 load_later (Some form.Join) first mid last le more rose = Rose-until_later first mid last le rose more
+load_later (Some form.Reserve) first mid last le more rose = Rose-until_later first mid last le rose more
 
 caused_later : (asked : Option Form) (given : Option Given) (input : Option Text) (s : Status) (reads : Counts) (first mid last : ℕ) → first ≤ mid → mid ≤ last →
     IsCaused asked given input s reads (first, mid) → IsCaused asked given input s reads (first, last)

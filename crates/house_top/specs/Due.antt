@@ -23,8 +23,10 @@ use Rattle.house_top.specs.declared.status.Status.TheVariants as status
 use Rattle.house_top.specs.Desks.{joined}
 use Rattle.house_top.specs.Given.{Given}
 use Rattle.house_top.specs.Judged.{file_judged, judged}
-use Rattle.house_top.specs.Opening.{file_at, opening_of}
+use Rattle.house_top.specs.Leaving.{status_of_reserve, text_of_reserve}
+use Rattle.house_top.specs.Opening.{file_at, loaded, opening_of}
 use Rattle.house_top.specs.Refused.{text_without_run}
+use Rattle.reserve_list.specs.Told.{reserve_told}
 use Rattle.slip_text.specs.Told.{slip_told}
 
 -- the status of a run that ends so; a run without an end is that of an input that is too long
@@ -72,6 +74,7 @@ run_asked (Some (form.Slip name)) given = Some (run_behind goal.Run [])
 run_asked (Some form.Opened) given = option_map opened_run (result_ok (opening_of given.files))
 run_asked (Some (form.Judged document)) given = None
 run_asked (Some form.Join) given = None
+run_asked (Some form.Reserve) given = option_map (λ bytes. run_behind goal.Run []) (result_ok (loaded (file_at given.files 0)))
 
 -- the lines of a run, with what it hears of an input
 abbrev pub lines_of : Run → Text → Lines
@@ -91,15 +94,21 @@ abbrev pub reported : Option Form → Given → Option Lines
 reported asked given =
     option_and_then (λ run. if run.reports then Some (lines_of run given.input) else None) (run_asked asked given)
 
--- the lines whose report is written: not where a slip is told in its place
+-- the lines whose report is all that is written: not where a slip is told in its place, or more behind it
 abbrev pub printed : Option Form → Given → Option Lines
 printed (Some (form.Slip name)) given = None
+printed (Some form.Reserve) given = None
 printed asked given = reported asked given
 
 -- the slip that is asked for: the name, and the lines that are run
 abbrev pub slip_asked : Option Form → Given → Option (Text × Lines)
 slip_asked (Some (form.Slip name)) given = Some (name, heard given.input)
 slip_asked asked given = None
+
+-- the file of withdrawals behind a report: its bytes, and the lines that are run
+abbrev pub leaving_asked : Option Form → Given → Option (Text × Lines)
+leaving_asked (Some form.Reserve) given = option_map (λ bytes. (bytes, heard given.input)) (result_ok (loaded (file_at given.files 0)))
+leaving_asked asked given = None
 
 -- the slip that is judged
 abbrev pub slip_judged : Option Form → Given → Option Text
@@ -132,6 +141,25 @@ abbrev pub IsSlipText : Text → Status → Text → Text → Type 0
 IsSlipText name status.Done input text = text ≡ slip_told name (profile (heard input))
 IsSlipText name s input text = IsTextOfRun (run_behind goal.Run []) input text
 
+-- the status of a run for the report that ends with this status, where a file of withdrawals is taken behind the report
+abbrev pub status_left : Text → Status → Text → Status
+status_left bytes status.Done input = status_of_reserve (reserve_told bytes (heard input))
+status_left bytes s input = s
+
+-- its text
+abbrev pub IsTextLeft : Text → Status → Text → Text → Type 0
+IsTextLeft bytes status.Done input text = text ≡ text_of_reserve (reserve_told bytes (heard input))
+IsTextLeft bytes s input text = IsTextOfRun (run_behind goal.Run []) input text
+
+-- the status of a call by the file of withdrawals, which is loaded before the input is looked at, and its text
+abbrev pub status_reserved : Result Text Status → Text → Status
+status_reserved (Ok bytes) input = status_left bytes (status_of_run (run_behind goal.Run []) input) input
+status_reserved (Err s) input = s
+
+abbrev pub IsTextReserved : Result Text Status → Text → Text → Type 0
+IsTextReserved (Ok bytes) input text = IsTextLeft bytes (status_of_run (run_behind goal.Run []) input) input text
+IsTextReserved (Err s) input text = text ≡ text_without_run s
+
 -- the status with which a call is to end
 unfoldable pub due_status : Option Form → Given → Status
 due_status None given = status.Usage
@@ -141,6 +169,7 @@ due_status (Some (form.Slip name)) given = status_of_run (run_behind goal.Run []
 due_status (Some form.Opened) given = status_opened (opening_of given.files) given.input
 due_status (Some (form.Judged document)) given = (judged document (file_at given.files 0)).0
 due_status (Some form.Join) given = (joined given.files).0
+due_status (Some form.Reserve) given = status_reserved (loaded (file_at given.files 0)) given.input
 
 -- the text that is to be given
 abbrev pub IsDueText : Option Form → Given → Text → Type 0
@@ -152,6 +181,7 @@ IsDueText (Some (form.Slip name)) given text =
 IsDueText (Some form.Opened) given text = IsTextOpened (opening_of given.files) given.input text
 IsDueText (Some (form.Judged document)) given text = text ≡ (judged document (file_at given.files 0)).1
 IsDueText (Some form.Join) given text = text ≡ (joined given.files).1
+IsDueText (Some form.Reserve) given text = IsTextReserved (loaded (file_at given.files 0)) given.input text
 
 -- the audit of the second version of lines that come to their report
 abbrev pub audit_of : Lines → Text

@@ -10,7 +10,7 @@ use Rattle.house_model.specs.Text.{Lines}
 use Rattle.house_top.specs.declared.form.Form.{Form}
 use Rattle.house_top.specs.declared.form.Form.TheVariants as form
 use Rattle.house_top.specs.declared.status.Status.{Status}
-use Rattle.house_top.specs.Opening.{opening_of}
+use Rattle.house_top.specs.Opening.{file_at, loaded, opening_of}
 use Rattle.house_top.specs.Words.{form_of, names_in}
 
 -- the bytes of the input, and of the file of each word behind the first, where there is such a file
@@ -40,6 +40,11 @@ told_behind (Ok opening) input files =
     option_map (λ bytes. record { input = bytes; files = files }) (input_behind opening input)
 told_behind (Err s) input files = Some (record { input = []; files = files })
 
+-- what is given with these files, by what was loaded of one of them; without it the input is not looked at
+abbrev pub told_with_file : Result Text Status → Option Text → List (Option Text) → Option Given
+told_with_file (Ok bytes) input files = option_map (λ input. record { input = input; files = files }) input
+told_with_file (Err s) input files = Some (files_alone files)
+
 -- What a call is given, where all that its words look at is told: of the input, and of the files with these names. What
 -- they do not look at counts as empty.
 abbrev pub told : Option Form → List Text → Option Text → Option Contents → Option Given
@@ -51,6 +56,8 @@ told (Some form.Opened) names input files =
     option_and_then (λ files. told_behind (opening_of (held names files)) input (held names files)) files
 told (Some (form.Judged document)) names input files = option_map (λ files. files_alone (held names files)) files
 told (Some form.Join) names input files = option_map (λ files. files_alone (held names files)) files
+told (Some form.Reserve) names input files =
+    option_and_then (λ files. told_with_file (loaded (file_at (held names files) 0)) input (held names files)) files
 
 -- what a call with these words is given, where all that they look at is told
 abbrev pub given_by : List Text → Option Text → Option Contents → Option Given

@@ -3,7 +3,9 @@ pub mod Opening
 pub mod Opened
 pub mod Given
 pub mod Refused
+pub mod Reserved
 pub mod Judged
+pub mod Leaving
 pub mod Desks
 pub mod Due
 pub mod Answer

@@ -29,6 +29,7 @@ OpensNone (bad.Entry number) = Unit {0}
 OpensNone (bad.Slip line) = ⊥
 OpensNone (bad.Row row) = ⊥
 OpensNone (bad.Desk file line) = ⊥
+OpensNone (bad.Leave line reason) = ⊥
 
 -- where files open no run, it is for a fault that they can have
 abbrev pub IsBadOpening : Opened → Type 0

@@ -19,12 +19,14 @@ use Rattle.house_top.specs.declared.form.Form.TheVariants as form
 use Rattle.house_top.specs.declared.status.Status.{Status}
 use Rattle.house_top.specs.declared.status.Status.TheVariants as status
 use Rattle.house_top.specs.Answer.{IsShortOrFault, IsWhole}
-use Rattle.house_top.specs.Due.{IsDueText, due_file, due_status, hears, printed, reported, run_of, slip_asked, slip_judged}
+use Rattle.house_top.specs.Due.{IsDueText, due_file, due_status, hears, leaving_asked, printed, reported, run_of, slip_asked, slip_judged}
 use Rattle.house_top.specs.Desks.{IsOfDesk}
 use Rattle.house_top.specs.Given.{Given}
 use Rattle.house_top.specs.Judged.{IsRefusal}
+use Rattle.house_top.specs.Leaving.{BeginsWithReport, IsLeaving}
 use Rattle.house_top.specs.Opened.{OpensNone}
 use Rattle.house_top.specs.Words.{is_storing, last_name, loads}
+use Rattle.reserve_list.specs.Told.{PassesSeatsOn}
 use Rattle.slip_text.specs.Told.{OwnReviewsAreInNoSlip, PrintsChances}
 use Rattle.input_run.specs.Input.{DecidedWhereTold, EndsWhereTold, NoFurtherWhereTold, UndecidedWhereTold}
 
@@ -59,6 +61,7 @@ ReadRose (Some (form.Slip name)) reads = Rose reads.0 reads.1
 ReadRose (Some form.Opened) reads = Rose reads.0 reads.1
 ReadRose (Some (form.Judged document)) reads = ⊥
 ReadRose (Some form.Join) reads = ⊥
+ReadRose (Some form.Reserve) reads = Rose reads.0 reads.1
 
 -- the words load files, and their count rose
 abbrev pub LoadRose : Option Form → Counts → Type 0
@@ -69,6 +72,7 @@ LoadRose (Some (form.Slip name)) loads = ⊥
 LoadRose (Some form.Opened) loads = Rose loads.0 loads.1
 LoadRose (Some (form.Judged document)) loads = Rose loads.0 loads.1
 LoadRose (Some form.Join) loads = Rose loads.0 loads.1
+LoadRose (Some form.Reserve) loads = Rose loads.0 loads.1
 
 -- the words store a file, and the count of the files rose
 abbrev pub StoreRose : Option Form → Counts → Type 0
@@ -83,6 +87,7 @@ IsBadOf (Some (form.Slip name)) why = ⊥
 IsBadOf (Some form.Opened) why = OpensNone why
 IsBadOf (Some (form.Judged document)) why = IsRefusal document why
 IsBadOf (Some form.Join) why = IsOfDesk why
+IsBadOf (Some form.Reserve) why = IsLeaving why
 
 -- why a call fails to read, and where a length that is not told is too long: a count of what its words look at rose
 pub record IsCaused (asked : Option Form) (given : Option Given) (input : Option Text) (s : Status)
@@ -151,6 +156,11 @@ pub record KeepsThePromise (asked : Option Form) (given : Option Given) (s : Sta
   pub own_reviews_are_in_no_slip : s ≡ status.Done → IfSome given (λ given. IfSome (slip_asked asked given)
       (λ slip. Gives before after (OwnReviewsAreInNoSlip slip.0 slip.1)))
   pub right_slips_print_chances : s ≡ status.Done → IfSome given (λ given. IfSome (slip_judged asked given) PrintsChances)
+  -- behind a report stand those who move up where some withdraw, and each one's chance then
+  pub report_stands_first : s ≡ status.Done → IfSome given (λ given. IfSome (leaving_asked asked given)
+      (λ left. Gives before after (BeginsWithReport left.1)))
+  pub seats_are_passed_on : s ≡ status.Done → IfSome given (λ given. IfSome (leaving_asked asked given)
+      (λ left. Gives before after (PassesSeatsOn left.1 left.0)))
   -- an assignment is valid, and a call ends short where one is looked for and there is none, and nowhere else
   pub assignment_is_valid : s ≡ status.Done → IfSome given (λ given. IfSome (run_of asked given)
       (λ run. IsWellAssigned run.0 (taken run.0 run.1)))
@@ -174,7 +184,8 @@ pub record ReadsFarEnough {I : Type 0} (left : I → Option Text) (asked : Optio
       IfSome (reported asked given) (λ all. EndsWhereTold (left old) (left new)))
   pub usage_reads_nothing : s ≡ status.Usage → new ≡ old
   pub unheard_is_unread : IfSome given (λ given. hears asked given ≡ None → new ≡ old)
-  pub bad_file_reads_nothing : (why : Bad) → s ≡ status.BadFile why → new ≡ old
+  -- a file of withdrawals is looked at behind the report
+  pub bad_file_reads_nothing : (why : Bad) → s ≡ status.BadFile why → ¬ IsLeaving why → new ≡ old
 
 -- where no file is stored: all files hold what they held, and where none is loaded nothing at all has become of them
 pub record KeepsFiles {F : Type 0} (shown : F → Option Contents) (loaded : List Text) (old new : F) : Type 0 where

@@ -44,6 +44,7 @@ abbrev pub loads : Option Form → List Text → List Text
 loads (Some form.Opened) names = names
 loads (Some (form.Judged document)) names = take 1 names
 loads (Some form.Join) names = names
+loads (Some form.Reserve) names = names
 loads asked names = []
 
 -- whether a file is stored behind what is said of a document
@@ -74,6 +75,7 @@ form_of words =
     else if name_one_file (codes "replay") words then Some (form.Judged document.Audit)
     else if name_two_files (codes "migrate") words then Some (form.Judged document.OldAudit)
     else if name_two_files (codes "join") words then Some form.Join
+    else if name_one_file (codes "reserve") words then Some form.Reserve
     else option_map form.Slip (slip_name words)
 
 -- the names of the files that a call with these words loads

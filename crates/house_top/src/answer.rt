@@ -95,6 +95,16 @@ pub fn bad_file(alloc: Global, why: Bad) -> Result<Answer, Memory>
             &[Text(b"bad"), Text(b"desk"), Number(file), Number(line)],
             &mut text,
         )?,
+        Bad::Leave(line, reason) => push_line(
+            alloc,
+            &[
+                Text(b"bad"),
+                Text(b"withdraw"),
+                Number(line),
+                Text(reason.word().as_bytes()),
+            ],
+            &mut text,
+        )?,
     }
     Ok(Answer {
         status: Status::BadFile(why),

@@ -1,6 +1,7 @@
 //! Why a file is refused.
 
 use call_file::Key;
+use house_base::Reason;
 
 /// Why a file is refused.
 #[derive(Clone, Copy, Debug, PartialEq, Eq)]
@@ -18,4 +19,6 @@ pub enum Bad {
     /// Of the desk files that the words name, the one with this number at the line with that one, both counted from 1:
     /// the line is off the form, or its key does not come behind the key before it.
     Desk(u64, u64),
+    /// The line of a file of withdrawals with this number, counted from 1, is the first that is refused, for this reason.
+    Leave(u64, Reason),
 }

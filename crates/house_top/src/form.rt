@@ -22,4 +22,7 @@ pub enum Form {
     Judged(Document),
     /// `join` with the names of two desk files: to tell the desk file of their join.
     Join,
+    /// `reserve` with the name of a file of withdrawals: to run the lines of the input for the report, and to tell behind it
+    /// who moves up, and the board.
+    Reserve,
 }

@@ -11,6 +11,7 @@ mod input;
 mod joined;
 pub(crate) mod judged;
 mod opened;
+mod reserved;
 mod slipped;
 
 use crate::answer::Answer;
@@ -57,5 +58,6 @@ pub fn answer_to<I: Source, F: Files>(
         ),
         Form::Judged(document) => judged::judge_alone(alloc, document, words[1].as_str(), files),
         Form::Join => joined::join_files(alloc, names_in(words), files),
+        Form::Reserve => reserved::reserve_seats(alloc, words[1].as_str(), input, files),
     }
 }

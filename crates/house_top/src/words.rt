@@ -32,6 +32,8 @@ pub fn form_of(words: &Vec<String>) -> Option<Form>
         Some(Form::Judged(Document::OldAudit))
     } else if name_two_files(words, "join") {
         Some(Form::Join)
+    } else if name_one_file(words, "reserve") {
+        Some(Form::Reserve)
     } else {
         match slip_name(words) {
             Some(name) => Some(Form::Slip(name)),

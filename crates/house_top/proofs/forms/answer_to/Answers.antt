@@ -3,7 +3,7 @@ use Rattle.std.specs.Prelude.{All}
 use Rattle.house_top.specs.declared.form.Form.TheVariants as form
 use Rattle.house_top.specs.Answer.{status_of_answer}
 use Rattle.house_top.specs.Words.{names_in, texts}
-use Rattle.house_top.proofs.AskLemmas.{first_ready, join_names, named, named_one, names_of_three, names_of_two, one_ready, ready_join, ready_name, ready_names, second_ready, three_strings, two_strings, unstored_document}
+use Rattle.house_top.proofs.AskLemmas.{first_ready, join_names, named, named_one, names_of_three, names_of_two, one_ready, ready_join, ready_name, ready_names, ready_reserve, reserve_strings, second_ready, three_strings, two_strings, unstored_document}
 use Rattle.house_top.proofs.FormLemmas.{form_answers, form_caused, form_files, form_reads, input_caused, input_reads, input_result, kept, named_answers, named_caused, named_files, named_reads}
 use Rattle.house_top.proofs.JoinedLemmas.{joined_answers, joined_caused, joined_reads, kept_names}
 use Rattle.house_top.proofs.JudgedLemmas.{judged_answers, judged_caused, judged_reads}
@@ -224,3 +224,50 @@ returns-in-Join-clause-files g c =
     let names = names_in (texts c.args.words.now.items) in
     form_files g.F.Files.contents c.args.form form.Join names c.args.files.now c.join_files.new.files c.in-Join.is
     (kept_names g.F.Files.contents names c.args.files.now c.join_files.new.files (join_names (texts c.args.words.now.items) (c.requires.form ∙ ap Some c.in-Join.is)) c.join_files.ensures.unchanged)
+
+pub index-requires-in-Reserve : goal.index-requires-in-Reserve
+index-requires-in-Reserve g c =
+    let two = reserve_strings c.args.words.now.items (c.requires.form ∙ ap Some c.in-Reserve.is) in
+    omega (arith, two, c.args.words.now.ok.0)
+
+pub reserve_seats-requires : goal.reserve_seats-requires
+reserve_seats-requires g c =
+    let names = names_in (texts c.args.words.now.items) in
+    let two = reserve_strings c.args.words.now.items (c.requires.form ∙ ap Some c.in-Reserve.is) in
+    let are = names_of_two c.args.words.now.items c.index-in-Reserve.result.now two c.index-in-Reserve.ensures ∙ named_one c.as_str-in-Reserve.ensures.value in
+    ready_reserve (g.F.Files.ready c.args.files.now) c.args.form c.as_str-in-Reserve.result.now names c.in-Reserve.is are c.requires.ready
+
+pub returns-in-Reserve-clause-answer : goal.returns-in-Reserve-clause-answer
+returns-in-Reserve-clause-answer g c =
+    let names = names_in (texts c.args.words.now.items) in
+    let left = g.I.Source.left c.args.input.now in
+    let files = g.F.Files.contents c.args.files.now in
+    let two = reserve_strings c.args.words.now.items (c.requires.form ∙ ap Some c.in-Reserve.is) in
+    let are = names_of_two c.args.words.now.items c.index-in-Reserve.result.now two c.index-in-Reserve.ensures ∙ named_one c.as_str-in-Reserve.ensures.value in
+    form_answers c.args.form form.Reserve c.reserve_seats.result names left files c.in-Reserve.is (named_answers form.Reserve c.reserve_seats.result names _ left files are c.reserve_seats.ensures.answer)
+
+pub returns-in-Reserve-clause-caused : goal.returns-in-Reserve-clause-caused
+returns-in-Reserve-clause-caused g c =
+    let names = names_in (texts c.args.words.now.items) in
+    let left = g.I.Source.left c.args.input.now in
+    let files = g.F.Files.contents c.args.files.now in
+    let two = reserve_strings c.args.words.now.items (c.requires.form ∙ ap Some c.in-Reserve.is) in
+    let are = names_of_two c.args.words.now.items c.index-in-Reserve.result.now two c.index-in-Reserve.ensures ∙ named_one c.as_str-in-Reserve.ensures.value in
+    form_caused c.args.form form.Reserve (status_of_answer c.reserve_seats.result) names left files _ _ c.in-Reserve.is (named_caused form.Reserve (status_of_answer c.reserve_seats.result) names _ left files _ _ are c.reserve_seats.ensures.caused)
+
+pub returns-in-Reserve-clause-reads : goal.returns-in-Reserve-clause-reads
+returns-in-Reserve-clause-reads g c =
+    let names = names_in (texts c.args.words.now.items) in
+    let left = g.I.Source.left c.args.input.now in
+    let files = g.F.Files.contents c.args.files.now in
+    let two = reserve_strings c.args.words.now.items (c.requires.form ∙ ap Some c.in-Reserve.is) in
+    let are = names_of_two c.args.words.now.items c.index-in-Reserve.result.now two c.index-in-Reserve.ensures ∙ named_one c.as_str-in-Reserve.ensures.value in
+    form_reads g.I.Source.left c.args.form form.Reserve (status_of_answer c.reserve_seats.result) names left files _ c.args.input.now c.reserve_seats.new.input c.in-Reserve.is
+    (named_reads g.I.Source.left form.Reserve (status_of_answer c.reserve_seats.result) names _ left files _ c.args.input.now c.reserve_seats.new.input are c.reserve_seats.ensures.reads)
+
+pub returns-in-Reserve-clause-files : goal.returns-in-Reserve-clause-files
+returns-in-Reserve-clause-files g c =
+    let names = names_in (texts c.args.words.now.items) in
+    let two = reserve_strings c.args.words.now.items (c.requires.form ∙ ap Some c.in-Reserve.is) in
+    let are = names_of_two c.args.words.now.items c.index-in-Reserve.result.now two c.index-in-Reserve.ensures ∙ named_one c.as_str-in-Reserve.ensures.value in
+    form_files g.F.Files.contents c.args.form form.Reserve names c.args.files.now c.reserve_seats.new.files c.in-Reserve.is (named_files g.F.Files.contents names _ c.args.files.now c.reserve_seats.new.files are c.reserve_seats.ensures.files)

@@ -25,4 +25,6 @@ mod opened;
 #[cfg(test)]
 mod replays;
 #[cfg(test)]
+mod reserves;
+#[cfg(test)]
 mod slips;

@@ -1,4 +1,5 @@
-# Says what is wrong with the refused line of a command file, in one line, or writes nothing where it cannot tell.
+# Says what is wrong with the refused line of a command file, in one line, or writes nothing where it cannot tell. It
+# is run behind words.awk.
 #
 # The input is the command file, in which each CR is the byte 1 and every other byte that is not printable is `?`.
 # Variables: number, the refused line's, one more than the last where the end is refused; reason; bytes, those of the
@@ -33,43 +34,7 @@ function take() {
 
 # ------------------------------------------------------------------------------------------------ bytes of a word
 
-# The place in `bytes` of the first byte of each word of the refused line, and how many it has.
-function find_words(    i, inside) {
-    byte_count = split(bytes, byte, " ")
-    if (byte_count > 0 && byte[byte_count] == 13) byte_count--
-    for (i = 1; i <= byte_count; i++) {
-        if (byte[i] == 32 || byte[i] == 9) inside = 0
-        else {
-            if (!inside) { inside = 1; from[++word_count] = i }
-            width[word_count]++
-        }
-    }
-}
-
-function shown(b) {
-    if (b > 32 && b < 127) return "`" sprintf("%c", b) "`"
-    if (b >= 128) return "the byte " b ", of a sign beyond ASCII"
-    return "the byte " b
-}
-
-function is_lower(b) { return b >= 97 && b <= 122 }
-function is_digit(b) { return b >= 48 && b <= 57 }
-function is_upper(b) { return b >= 65 && b <= 90 }
-
-# What a name lacks, or nothing.
-function off_name(k,    i, b) {
-    b = byte[from[k]]
-    if (!is_lower(b)) return "a name begins with a letter of a-z, and `" word[k] "` begins with " shown(b)
-    for (i = 1; i < width[k]; i++) {
-        b = byte[from[k] + i]
-        if (!is_lower(b) && !is_digit(b) && b != 45) {
-            return "a name has only a-z, 0-9 and -, and `" word[k] "` has " shown(b) " as byte " i + 1
-        }
-    }
-    if (width[k] > 24) return "a name has at most 24 bytes, and `" word[k] "` has " width[k]
-    return ""
-}
-
+# What a seed lacks, or nothing.
 function off_seed(k,    i, b) {
     for (i = 0; i < width[k]; i++) {
         b = byte[from[k] + i]
@@ -120,6 +85,7 @@ function on_form(verb,    low, i, b) {
     low = tolower(verb)
     if (low != verb && (low == "review" || low in usage)) return "commands are written in small letters: `" low "`"
     if (low == "reviews") return "a review line begins with `review`"
+    if (low == "withdraw") return on_withdraw()
     if (!(verb in usage)) {
         return "`" verb "` is no command; there are call, applicant, conflict, place, partition, pair, seal, assign, " \
             "close, draw and lottery, and review lines begin with `review`"
@@ -134,6 +100,10 @@ function on_form(verb,    low, i, b) {
         }
     }
     return "the digest has " width[2] " digits, and 64 are wanted"
+}
+
+function on_withdraw() {
+    return "who withdraws behind the draw stands in a file of its own: bin/house reserve WITHDRAWALS < FILE"
 }
 
 function on_name(verb) {
@@ -226,6 +196,7 @@ function on_unfinished() {
 }
 
 function answer() {
+    if (reason == "no-call" && number <= last && tolower(word[1]) == "withdraw") return on_withdraw()
     if (reason == "no-call") return number > last ? "no line is a command; the first has to be `" usage["call"] "`" : \
         "the first command has to be `" usage["call"] "`"
     if (reason == "order") return on_order(word[1])

@@ -31,7 +31,7 @@ is_form() {
     case $#:${1-} in
         1:run | 1:feasible | 1:pairs) ;;
         3:run) [ -n "$2" ] && [ -n "$3" ] ;;
-        2:audit | 2:check | 2:replay) [ -n "$2" ] ;;
+        2:audit | 2:check | 2:replay | 2:reserve) [ -n "$2" ] ;;
         2:slip) is_name "$2" ;;
         3:join | 3:migrate) [ -n "$2" ] && [ -n "$3" ] ;;
         *) return 1 ;;
@@ -71,6 +71,15 @@ are_words() {
                 say "\`slip\` takes the name of an applicant, and the file goes to standard input: bin/house slip NAME < $(quoted "$2")"
             else
                 say "$(quoted "$2") is no name: 1 to 24 of a-z, 0-9 and -, the first a letter: bin/house slip NAME < FILE"
+            fi
+            ;;
+        reserve)
+            if [ $# = 2 ]; then
+                say "the name of a file is empty: bin/house reserve WITHDRAWALS < FILE"
+            elif [ $# = 1 ]; then
+                say "the name of the file is missing that has the withdrawals: bin/house reserve WITHDRAWALS < FILE"
+            else
+                say "\`reserve\` takes one file of withdrawals, and the input goes to standard input: bin/house reserve WITHDRAWALS < FILE"
             fi
             ;;
         check)
@@ -116,6 +125,7 @@ are_words() {
                 case $low in
                     audit) say "words are written in small letters: bin/house audit AUDIT < FILE" ;;
                     slip) say "words are written in small letters: bin/house slip NAME < FILE" ;;
+                    reserve) say "words are written in small letters: bin/house reserve WITHDRAWALS < FILE" ;;
                     check | replay) say "words are written in small letters: bin/house $low FILE" ;;
                     migrate) say "words are written in small letters: bin/house migrate OLD NEW" ;;
                     join) say "words are written in small letters: bin/house join FILE FILE" ;;
@@ -126,23 +136,24 @@ are_words() {
             elif [ -n "$(meaning "$1")$(set_aside "$1")$(help_on_text "$1")" ]; then
                 say "$1 is a word of the answers: bin/house help $1 says what it means"
             else
-                say "$(quoted "$1") is no word of the program; there are run, feasible, pairs, audit, slip, check, replay, migrate and join: bin/house help"
+                say "$(quoted "$1") is no word of the program; there are run, feasible, pairs, audit, slip, reserve, check, replay, migrate and join: bin/house help"
             fi
             ;;
     esac
     return 1
 }
 
-# What the bytes show with which the input in the file $1 begins, or those of the refused line, where they are not of
-# plain lines; nothing else.
+# What the bytes show with which the file $1 begins, or those of the refused line, where they are not of plain lines;
+# nothing else. The file is the input, or is called otherwise.
 off_encoding() {
+    what=${3:-the input}
     case $(head -c 3 "$1" | od -An -v -tu1) in
         ' 239 187 191')
-            echo "the input begins with a byte order mark, which belongs to its first word; without it: tail -c +4 FILE"
+            echo "$what begins with a byte order mark, which belongs to its first word; without it: tail -c +4 FILE"
             return
             ;;
         ' 255 254'* | ' 254 255'*)
-            echo "the input is UTF-16, two bytes a letter; to make plain text of it: iconv -f UTF-16 -t UTF-8 FILE"
+            echo "$what is UTF-16, two bytes a letter; to make plain text of it: iconv -f UTF-16 -t UTF-8 FILE"
             return
             ;;
     esac
@@ -198,7 +209,7 @@ explain_line() {
             [ -z "$seed" ] || draw_clusters "$room/plain" "$number" "$seed" "$clusters" >"$room/drawn"
         fi
         off=$(awk -v number="$number" -v reason="$reason" -v bytes="$bytes" -v drawn="$room/drawn" \
-            -f "$here/bin/parts/explain.awk" "$room/plain" | cut -c 1-300)
+            -f "$here/bin/parts/words.awk" -f "$here/bin/parts/explain.awk" "$room/plain" | cut -c 1-300)
     fi
     [ -z "$off" ] || say "here: $off"
 }
@@ -225,10 +236,11 @@ refused_somewhere() {
     say "a line of the input, or its end, was refused; bin/house help REASON says what the reason means"
 }
 
-# A file in which the last line has no end: what is appended to it next joins that line.
+# A file in which the last line has no end: what is appended to it next joins that line. It is standard input, or is
+# called otherwise.
 warn_of_open_end() {
-    if [ -s "$1" ] && [ "$(tail -c 1 "$1" | od -An -tu1 | tr -d ' ')" != 10 ]; then
-        say "the last line of the file has no line end: what is appended next would join it (echo >> FILE ends it)"
+    if [ -s "$1" ] && [ "$(tail -c 1 <"$1" | od -An -tu1 | tr -d ' ')" != 10 ]; then
+        say "the last line of ${2:-the file} has no line end: what is appended next would join it (echo >> FILE ends it)"
     fi
 }
 
@@ -360,6 +372,37 @@ show_bad_file() {
     esac
 }
 
+# Which line of a file of withdrawals is refused, and what is wrong with it. The program with the other words is asked once
+# more on the input in the file $1; where that is not kept, it is not.
+show_bad_withdrawal() {
+    source=$1
+    shift
+    file=$2
+    case $file in
+        -*) file=./$file ;;
+    esac
+    answer=
+    [ -z "$source" ] || answer=$("$program" "$@" <"$source" 2>/dev/null)
+    case $answer in
+        'bad withdraw '*) ;;
+        *)
+            say "a line of $(quoted "$2") is refused; bin/house help REASON says what the reason means"
+            return
+            ;;
+    esac
+    reason=${answer##* }
+    number=${answer#bad withdraw }
+    number=${number% *}
+    LC_ALL=C tr '\15' '\1' <"$source" | LC_ALL=C tr -c '\1\11\12\40-\176' '?' >"$room/call"
+    find_line "$file"
+    say "line $number of $(quoted "$2") is refused: $line"
+    say "$reason: $(staying "$reason")"
+    off=$(off_encoding "$file" "$bytes" "the file")
+    [ -n "$off" ] || off=$(awk -v number="$number" -v reason="$reason" -v bytes="$bytes" -f "$here/bin/parts/words.awk" \
+        -f "$here/bin/parts/leave.awk" "$room/plain" "$room/call" | cut -c 1-300)
+    [ -z "$off" ] || say "here: $off"
+}
+
 # The row $1 of the audit $2, as it can be shown.
 row_of() {
     sed -n "$1{p;q;}" "$2" 2>/dev/null | head -c 300 | LC_ALL=C tr '\1-\11\13-\37\177-\377' '?'
@@ -401,13 +444,13 @@ show_difference() {
 }
 
 # One line on what happened, where the program's own answer may not say it. Behind the status stands what the answer may
-# be of: `files` beside the input, or the word that reads no input, or stores a file.
+# be of: `files` beside the input, or the word that reads no input, stores a file, or loads one beside the input.
 explain() {
     unread="the input"
     long="the input has more than 16,777,216 bytes or 1,048,576 lines"
     or_the_audit=
     case ${2-} in
-        files) unread="the input or a file" long="$long, or a file has more than 16,777,216 bytes" ;;
+        files | reserve) unread="the input or a file" long="$long, or a file has more than 16,777,216 bytes" ;;
         check | join) unread="a file" long="a file has more than 16,777,216 bytes" ;;
         replay | migrate) unread="the audit" long="the audit has more than 268,435,456 bytes" ;;
     esac

@@ -13,6 +13,9 @@ house reads a command file on standard input and writes its answer to standard o
     bin/house audit AUDIT < FILE writes the report as `run` does, and then the audit of the run into the file AUDIT
     bin/house slip NAME < FILE   runs the call and writes the slip of the applicant NAME, from which its chance can be
                                  checked without FILE
+    bin/house reserve WITHDRAWALS < FILE
+                                 runs the call and writes the report, who moves up for each applicant that withdraws, and
+                                 who holds a seat then
     bin/house check FILE         says whether the chance that a slip prints is the right one
     bin/house replay FILE        runs the lines of an audit again, and says whether it is the audit of its lines
     bin/house migrate OLD NEW    does the same, and stores their audit of the second version as NEW
@@ -32,8 +35,9 @@ TEXT
 statuses() {
     cat <<'TEXT'
 Exit status, and what is written:
-     0  done                                  the report, `feasible`, the pairs, a slip or `unlisted`, `slip yes`, a
-                                              desk file, `same lines N ENDING` or `migrated lines N`
+     0  done                                  the report, alone or with a board behind it, `feasible`, the pairs, a slip
+                                              or `unlisted`, `slip yes`, a desk file, `same lines N ENDING` or
+                                              `migrated lines N`
      1  the words are none of the above       nothing
      2  a line of the input, or its end, is
         refused                               `refused LINE REASON`
@@ -45,9 +49,9 @@ Exit status, and what is written:
      6  there was not enough memory           nothing
      7  an audit is not that of its lines     `differs ROW`, the row as it is kept, and the right one
      8  the input or a file is too long       `too-long`
-     9  a file is not of its form             `bad toml`, `bad key KEY`, `bad record R`,
-                                              `bad slip LINE`, `bad desk FILE LINE` or
-                                              `bad row R`
+     9  a file is refused                     `bad toml`, `bad key KEY`, `bad record R`,
+                                              `bad slip LINE`, `bad desk FILE LINE`,
+                                              `bad row R` or `bad withdraw LINE REASON`
     10  a slip prints a wrong chance          `wrong W/D`, the right one
     70  the program could not be built        nothing; only this script ends so
 TEXT
@@ -87,10 +91,24 @@ set_aside() {
     esac
 }
 
+# Why a line of a file of withdrawals is refused for this reason; nothing where the word is none.
+staying() {
+    case $1 in
+        form) echo "the line is not \`withdraw NAME\`, and no blank line or comment either" ;;
+        name) echo "the name is not 1 to 24 of a-z, 0-9 and -, the first a letter" ;;
+        unknown) echo "no applicant of the call has the name" ;;
+        known) echo "a line before has this applicant withdraw already" ;;
+    esac
+}
+
 reasons() {
     echo "The reasons of \`refused LINE REASON\`; of several that fit the first in this order is given:"
     for word in $reason_words; do
         printf '  %-12s%s\n' "$word" "$(meaning "$word")"
+    done
+    echo "The reasons of \`bad withdraw LINE REASON\`:"
+    for word in form name unknown known; do
+        printf '  %-12s%s\n' "$word" "$(staying "$word")"
     done
     echo "Beside them review lines are set aside: bin/house help kinds"
 }
@@ -149,6 +167,15 @@ slip yes
 What `check` says of a slip whose chance is the right one by its own lines; else it says `wrong W/D`.
 TEXT
             ;;
+        reserve) cat <<'TEXT'
+house reserve WITHDRAWALS < FILE
+Loads the file WITHDRAWALS, which has a line `withdraw NAME` for each applicant that withdraws, and then does as
+`run`. Behind the report it writes who moves up for each, in the order of the file, and the board: of each applicant
+the chance that it has given these withdrawals, and whether it holds a seat then, waits, or is gone. A seat passes to
+the next rank of its own cluster and nowhere else; in which order the lines stand changes nothing of the board. Where
+the run ends otherwise, it is told as by `run`, whatever stands in WITHDRAWALS. bin/house help final
+TEXT
+            ;;
         check) cat <<'TEXT'
 house check FILE
 Reads no input. Says of the slip FILE, by its own lines, whether the chance that it prints is the right one: `slip yes`,
@@ -198,18 +225,20 @@ TEXT
         too-long) cat <<'TEXT'
 too-long
 The input has more than 16,777,216 bytes or 1,048,576 lines, and no line within these limits ended the run; or a call
-file, a register, a slip or a desk file has more than 16,777,216 bytes, or an audit more than 268,435,456.
+file, a register, a slip, a desk file or a file of withdrawals has more than 16,777,216 bytes, or an audit more than
+268,435,456.
 TEXT
             ;;
         bad) cat <<'TEXT'
-bad toml, bad key KEY, bad record R, bad slip LINE, bad desk FILE LINE, bad row R
+bad toml, bad key KEY, bad record R, bad slip LINE, bad desk FILE LINE, bad row R, bad withdraw LINE REASON
 The call file is no TOML document; what it has under KEY, or lacks there, is not as it has to be (`other` is any key
 without a meaning); the record R of the register is not of its form. Records are counted from 1, the header among them,
 blank lines not, and a quoted field may go over several lines. docs/formats.md, "The call file and the register". Of a
 slip LINE is the first line off its form, from 1, or one more than it has where no member is there; "Slips" there. Of
 desk files FILE is 1 for the first that is named, and LINE its first line off the form; "Desk files" there. Of an audit
 R is the first row off its form, from 1, bytes behind the last line feed being a row, or one more than it has where its
-report is missing; "The audit file" there.
+report is missing; "The audit file" there. Of a file of withdrawals LINE is the first line that is refused, from 1, for
+the first reason that fits; "Withdrawals" there. It is looked at behind the report, which is not written then.
 TEXT
             ;;
         same) cat <<'TEXT'
@@ -240,6 +269,19 @@ wrong W/D
 The chance that the slip prints is the right one by the slip's own lines; or it is another, and W of D draws is right.
 TEXT
             ;;
+        withdraw) cat <<'TEXT'
+withdraw NAME up OTHER
+NAME withdraws, and its seat passes to OTHER, the next rank of its cluster; or, with `-` there, it held no seat, or nobody
+of its cluster waits for one.
+TEXT
+            ;;
+        final) cat <<'TEXT'
+final NAME chance X/D yes, no or gone
+How NAME stands given the withdrawals: it holds a seat (`yes`) or none (`no`), or has withdrawn (`gone`). Of all D draws X
+would give it a seat, these having withdrawn; none, where it is gone. Who stays has no less than in the report. The line
+`empty E` behind these counts the seats that nobody holds.
+TEXT
+            ;;
         aside) cat <<'TEXT'
 aside FORM EARLY LATE UNKNOWN UNASSIGNED RANGE
 How many review lines the report left out, by kind. bin/house help kinds
@@ -250,8 +292,8 @@ TEXT
 
 help_on() {
     case $1 in
-        run | feasible | pairs | audit | slip | check | replay | migrate | join) help_on_form "$1" ;;
-        refused | short | too-long | aside | bad | unlisted | wrong | same | differs | migrated) help_on_text "$1" ;;
+        run | feasible | pairs | audit | slip | reserve | check | replay | migrate | join) help_on_form "$1" ;;
+        refused | short | too-long | aside | bad | unlisted | wrong | same | differs | migrated | withdraw | final) help_on_text "$1" ;;
         reason | reasons) reasons ;;
         kind | kinds) kinds ;;
         status | statuses) statuses ;;
@@ -259,11 +301,13 @@ help_on() {
         *)
             what=$(meaning "$1")
             why=$(set_aside "$1")
-            if [ -z "$what$why" ]; then
+            stays=$(staying "$1")
+            if [ -z "$what$why$stays" ]; then
                 say "there is no help on this word; bin/house help lists the words"
                 return 1
             fi
             [ -z "$what" ] || printf 'refused LINE %s: %s\n' "$1" "$what"
+            [ -z "$stays" ] || printf 'bad withdraw LINE %s: %s\n' "$1" "$stays"
             [ -z "$why" ] || printf 'a review line is set aside as `%s`: %s\n' "$1" "$why"
             printf 'docs/formats.md has an example of each.\n'
             ;;

@@ -13,6 +13,7 @@ class NotUnderstood(Exception):
 
     def __init__(self, line, what):
         super().__init__("line %d is not understood: %s" % (line, what) if line else what)
+        self.line = line
 
 
 class Cluster:
@@ -95,9 +96,14 @@ class Report:
         self.applicants.append(self.by_name[name])
 
 
+def printable(line):
+    """A line without what a terminal would take for more than text."""
+    return "".join(it if it.isascii() and it.isprintable() else "?" for it in line)
+
+
 def shown(line):
-    """The begin of a line, without what a terminal would take for more than text."""
-    line = "".join(it if it.isascii() and it.isprintable() else "?" for it in line)
+    """The begin of a line, as it can be printed."""
+    line = printable(line[:200])
     return line if len(line) <= 60 else line[:60] + " .."
 
 

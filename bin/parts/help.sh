@@ -57,6 +57,7 @@ Exit status, and what is written:
 TEXT
 }
 
+text_words='refused short too-long bad same differs migrated unlisted wrong withdraw final aside'
 reason_words='no-call order form name range known unknown too-many seal few unplaced invalid unfinished'
 kind_words='form early late unknown unassigned range'
 
@@ -264,8 +265,7 @@ No applicant of the call has the name behind `slip`. A person's name is its appl
 TEXT
             ;;
         wrong) cat <<'TEXT'
-slip yes
-wrong W/D
+slip yes, or wrong W/D
 The chance that the slip prints is the right one by the slip's own lines; or it is another, and W of D draws is right.
 TEXT
             ;;
@@ -291,9 +291,12 @@ TEXT
 }
 
 help_on() {
+    told=$(help_on_form "$1" && help_on_text "$1")
+    if [ -n "$told" ]; then
+        printf '%s\n' "$told"
+        return
+    fi
     case $1 in
-        run | feasible | pairs | audit | slip | reserve | check | replay | migrate | join) help_on_form "$1" ;;
-        refused | short | too-long | aside | bad | unlisted | wrong | same | differs | migrated | withdraw | final) help_on_text "$1" ;;
         reason | reasons) reasons ;;
         kind | kinds) kinds ;;
         status | statuses) statuses ;;

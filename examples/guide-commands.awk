@@ -1,6 +1,6 @@
 # Makes a shell script of a guide's blocks ```sh, each with its output into a file of its own in the folder `into`, and
-# puts the blocks ```output beside them, as what is wanted. A block ```sh not-run is for the reader alone, and one
-# ```sh needs-python, which calls a tool or stands on what one has written, is left out where the variable python is not 1.
+# puts the blocks ```output beside them, as what is wanted. A block ```sh not-run is for the reader alone. One
+# ```sh needs-python calls a tool, or stands on what one has written; without python=1 it is left out.
 /^```sh$/ || python && /^```sh needs-python$/ {
     n++
     is_left_out = 0

@@ -1,5 +1,5 @@
-# Reads the two columns of the forms of words in a text of help: a form behind four spaces, and what it does from column 34
-# on, or on the lines below. Gives a line for each form without its program: the form, a tab, and what it does.
+# Reads the two columns of the forms of words in a text of help: a form behind four spaces, and what it does from
+# column 34 on, or on the lines below. Gives a line for each form, without its program: the form, a tab, what it does.
 function put() {
     if (form != "") print form "\t" does
     form = ""

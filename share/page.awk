@@ -42,7 +42,8 @@ function end_code() {
 BEGIN {
     upper = toupper(name)
     gsub(/-/, "\\-", upper)
-    printf ".\\\" Made by share/make-pages from the texts of help.\n.TH %s 1 \"\" house \"Peer review\"\n.SH NAME\n", upper
+    print ".\\\" Made by share/make-pages from the texts of help."
+    printf ".TH %s 1 \"\" house \"Peer review\"\n.SH NAME\n", upper
     printf "%s \\- %s\n", escaped(name), rich(tolower(substr(title, 1, 1)) substr(title, 2))
 }
 

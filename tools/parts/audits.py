@@ -73,8 +73,9 @@ class Audit:
     def line(self):
         found = self.row()
         keys = sorted(found)
-        named = keys == ["aside", "digest", "hex", "line"] or keys == ["aside", "digest", "line", "text"] and self.version == 2
-        self.need(named, "a line has `aside`, `digest`, `line` and its bytes, as `text` or `hex`")
+        is_text = self.version == 2 and keys == ["aside", "digest", "line", "text"]
+        is_line = is_text or keys == ["aside", "digest", "hex", "line"]
+        self.need(is_line, "a line has `aside`, `digest`, `line` and its bytes, as `text` or `hex`")
         kind, number = found["aside"], found["line"]
         self.need(kind == "none" or kind in reports.KINDS, "`aside` is a kind, or `none`")
         digest = found["digest"]

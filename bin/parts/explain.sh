@@ -191,7 +191,8 @@ ask_again() {
 
 # The line `number` of the lines in the file $1, as it can be shown, and its first bytes as decimal numbers.
 find_line() {
-    bytes=$(LC_ALL=C sed -n "$number{p;q;}" "$1" | head -c 2000 | od -An -v -tu1 | tr -s ' \n' '  ' | sed 's/ 10 *$//')
+    bytes=$(tail -n "+$number" "$1" 2>/dev/null | head -n 1 | head -c 2000 | od -An -v -tu1 | tr -s ' \n' '  ' \
+        | sed 's/ 10 *$//')
     LC_ALL=C tr '\15' '\1' <"$1" | LC_ALL=C tr -c '\1\11\12\40-\176' '?' >"$room/plain"
     line=$(sed -n "$number{p;q;}" "$room/plain" | tr -d '\1' | cut -c 1-160)
 }

@@ -38,7 +38,7 @@ function bash() {
     if (has_topics) print "        2:help) COMPREPLY=($(compgen -W '" topics "' -- \"$now\")) ;;"
     for (i = 1; i <= many; i++)
         for (k = 1; k <= files[words[i]]; k++)
-            print "        " k + 1 ":" words[i] ") COMPREPLY=($(compgen -f -- \"$now\")) ;;"
+            print "        " k + 1 ":" words[i] ") mapfile -t COMPREPLY < <(compgen -f -- \"$now\") ;;"
     print "    esac"
     print "}"
     print "complete -o filenames -F _" program " " program " bin/" program

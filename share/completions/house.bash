@@ -5,15 +5,15 @@ _house() {
     case $COMP_CWORD:${COMP_WORDS[1]} in
         1:*) COMPREPLY=($(compgen -W 'run feasible pairs audit slip check replay migrate join help version' -- "$now")) ;;
         2:help) COMPREPLY=($(compgen -W 'run feasible pairs audit slip check replay migrate join help version reasons kinds status refused short too-long bad same differs migrated unlisted wrong aside no-call order form name range known unknown too-many seal few unplaced invalid unfinished early late unassigned' -- "$now")) ;;
-        2:run) COMPREPLY=($(compgen -f -- "$now")) ;;
-        3:run) COMPREPLY=($(compgen -f -- "$now")) ;;
-        2:audit) COMPREPLY=($(compgen -f -- "$now")) ;;
-        2:check) COMPREPLY=($(compgen -f -- "$now")) ;;
-        2:replay) COMPREPLY=($(compgen -f -- "$now")) ;;
-        2:migrate) COMPREPLY=($(compgen -f -- "$now")) ;;
-        3:migrate) COMPREPLY=($(compgen -f -- "$now")) ;;
-        2:join) COMPREPLY=($(compgen -f -- "$now")) ;;
-        3:join) COMPREPLY=($(compgen -f -- "$now")) ;;
+        2:run) mapfile -t COMPREPLY < <(compgen -f -- "$now") ;;
+        3:run) mapfile -t COMPREPLY < <(compgen -f -- "$now") ;;
+        2:audit) mapfile -t COMPREPLY < <(compgen -f -- "$now") ;;
+        2:check) mapfile -t COMPREPLY < <(compgen -f -- "$now") ;;
+        2:replay) mapfile -t COMPREPLY < <(compgen -f -- "$now") ;;
+        2:migrate) mapfile -t COMPREPLY < <(compgen -f -- "$now") ;;
+        3:migrate) mapfile -t COMPREPLY < <(compgen -f -- "$now") ;;
+        2:join) mapfile -t COMPREPLY < <(compgen -f -- "$now") ;;
+        3:join) mapfile -t COMPREPLY < <(compgen -f -- "$now") ;;
     esac
 }
 complete -o filenames -F _house house bin/house

@@ -1,0 +1,5 @@
+pub mod Agree
+pub mod Half
+pub mod Rows
+pub mod Run
+pub mod Text

@@ -67,3 +67,7 @@ are_names names n are = are ∙ ap trial_names (sym (ap length are ∙ names-cou
 
 pub names_many : (names : List Text) (n : ℕ) → names ≡ trial_names n → length names ≡ n
 names_many names n are = ap length are ∙ names-count n
+
+pub one_name_more : (names grown : List Text) (name : Text) (n : ℕ) → grown ≡ names ++ name ∷ [] → names ≡ trial_names n → name ≡ trial_name (n + 1) → grown ≡ trial_names (n + 1)
+one_name_more names grown name n pushed are is =
+    pushed ∙ ap (λ ns. ns ++ name ∷ []) are ∙ ap (λ t. trial_names n ++ t ∷ []) is ∙ sym (names-more n)

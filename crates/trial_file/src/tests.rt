@@ -26,9 +26,11 @@ const FOUR: &[u8] =
 fn words_are_those_of_the_cipher(rt: HostRuntime) -> Result<(), Fail> {
     for (seed, words) in FIRST_WORDS {
         let mut generator = generator_of(seed);
-        for word in words {
-            assert_eq!(rt; next_word(&mut generator), word);
-        }
+        let first = next_word(&mut generator);
+        let second = next_word(&mut generator);
+        let third = next_word(&mut generator);
+        let fourth = next_word(&mut generator);
+        assert_eq!(rt; [first, second, third, fourth], words);
     }
     Ok(())
 }

@@ -18,6 +18,7 @@ pub(crate) fn generator_of(seed: u64) -> ChaCha8Rng
 }
 
 /// The key of a seed: its bytes, the low ones first, and 24 bytes 0.
+#[tactic(auto, unfolding(crate::specs::Stream::key_bytes))]
 fn key_bytes(seed: u64) -> [u8; 32]
     ensures { result ≡ key_bytes seed }
 {

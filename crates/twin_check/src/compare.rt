@@ -14,6 +14,7 @@ use std::alloc::Global;
 
 /// What each of two files comes to for the person of a name, and whether the two agree in all but what this person writes
 /// as a reviewer. Where they do, they come to the same.
+#[tactic(auto, using(crate::proofs::RunLemmas::within_lines))]
 pub fn twin(alloc: Global, a: &[u8], b: &[u8], name: Name) -> Result<Twin, Memory>
     requires first_within { is_over a.now ≡ false }
     requires second_within { is_over b.now ≡ false }

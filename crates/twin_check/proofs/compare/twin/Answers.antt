@@ -4,14 +4,7 @@ use Rattle.twin_check.specs.Agree.{AreAlike}
 use Rattle.twin_check.specs.Half.{half_of}
 use Rattle.twin_check.specs.declared.half.Half.{Half}
 use Rattle.twin_check.proofs.AlikeLemmas.{halves_of_call}
-use Rattle.twin_check.proofs.RunLemmas.{within_lines}
 use Rattle.twin_check.proofs.compare.twin.Goals as goal
-
-pub half_of-requires : goal.half_of-requires
-half_of-requires c = within_lines c.args.a.now c.requires.first_within
-
-pub half_of-requires-2 : goal.half_of-requires-2
-half_of-requires-2 c = within_lines c.args.b.now c.requires.second_within
 
 pub returns-clause-own_reviews_change_nothing : goal.returns-clause-own_reviews_change_nothing
 returns-clause-own_reviews_change_nothing c = λ yes.

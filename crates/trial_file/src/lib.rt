@@ -10,5 +10,7 @@ mod rows;
 mod stream;
 #[cfg(test)]
 mod tests;
+mod told;
 
 pub use file::made_file;
+pub use told::write_trial;

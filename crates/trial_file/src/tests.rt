@@ -1,7 +1,10 @@
 //! Trial files, and the first words of the generators of two seeds.
 
-use crate::made_file;
 use crate::stream::{generator_of, next_word};
+use crate::{made_file, write_trial};
+use house_base::{Asides, Call, Name};
+use house_model::{ApplicantRow, ClusterRow};
+use report_text::Outcome;
 use std::test::Fail;
 
 /// The first words for the seeds 0 and 1, from the published vectors of ChaCha8 for keys of 256 bits: of 32 bytes 0, and of
@@ -41,5 +44,50 @@ fn files_are_made(rt: HostRuntime) -> Result<(), Fail> {
     assert_eq!(rt; one.as_slice(), ONE);
     let four = made_file(rt.alloc(), u64::MAX, 4, 2, 2, 3)?;
     assert_eq!(rt; four.as_slice(), FOUR);
+    Ok(())
+}
+
+#[test]
+fn a_trial_is_told(rt: HostRuntime) -> Result<(), Fail> {
+    let name = Name::read(b"p1").ok_or("no name")?;
+    let mut clusters = Vec::new(rt.alloc());
+    clusters.push(ClusterRow {
+        cents: 0,
+        quota: 3_000_000,
+        seats: 3,
+        filled: 1,
+    })?;
+    let mut applicants = Vec::new(rt.alloc());
+    applicants.push(ApplicantRow {
+        name,
+        person: name,
+        cluster: 1,
+        rank: 1,
+        cents: 0,
+        chance: 1_000_000,
+        chosen: true,
+    })?;
+    let call = Call {
+        seats: 3,
+        clusters: 2,
+        reviews: 1,
+    };
+    let asides = Asides {
+        form: 0,
+        early: 0,
+        late: 0,
+        unknown: 0,
+        unassigned: 0,
+        range: 0,
+    };
+    let outcome = Outcome::make(call, asides, 7, 1_000_000, 1, clusters, applicants, 2);
+    let mut text = Vec::new(rt.alloc());
+    write_trial(rt.alloc(), u64::MAX, 7, &outcome, &mut text)?;
+    assert_eq!(rt;
+        text.as_slice(),
+        b"trial 18446744073709551615\nlines 7\napplicants 1\n\
+        seats 3 filled 1 empty 2\nchances 1000000/1000000\n"
+            .as_slice()
+    );
     Ok(())
 }

@@ -6,3 +6,4 @@ pub mod NeverLemmas
 pub mod ReviewLemmas
 pub mod RowLemmas
 pub mod StandLemmas
+pub mod ToldLemmas

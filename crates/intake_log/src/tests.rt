@@ -79,3 +79,129 @@ fn each_failing_call_of_a_start_is_told(rt: HostRuntime) -> Result<(), Fail> {
     }
     Ok(())
 }
+
+// The last byte of the length of a short line.
+fn length(line: &[u8]) -> Result<u8, Fail> {
+    Ok(u8::try_from(line.len()).ok().ok_or("a longer line")?)
+}
+
+// The bytes of the journal of some lines.
+fn journal_of(alloc: Global, lines: &[&[u8]]) -> Result<Vec<u8>, Fail> {
+    let mut bytes = Vec::new(alloc);
+    for line in lines {
+        bytes.extend_from_slice(&[1, 0, 0, 0])?;
+        bytes.push(length(line)?)?;
+        bytes.extend_from_slice(line)?;
+    }
+    bytes.push(0)?;
+    Ok(bytes)
+}
+
+// Lines behind one another with a line feed each.
+fn text_of(alloc: Global, lines: &[&[u8]]) -> Result<Vec<u8>, Fail> {
+    let mut text = Vec::new(alloc);
+    for line in lines {
+        text.extend_from_slice(line)?;
+        text.push(b'\n')?;
+    }
+    Ok(text)
+}
+
+// A journal with a part of an entry behind it, of which each byte is the new one, or torn to one of three others by a digit
+// of the choice.
+fn torn(alloc: Global, journal: &[u8], part: &[u8], choice: u32) -> Result<Vec<u8>, Fail> {
+    let mut image = journal.to_vec(alloc)?;
+    let mut digits = choice;
+    for byte in part {
+        image.push(match digits % 4 {
+            0 => *byte,
+            1 => 0,
+            2 => 1,
+            _ => 10,
+        })?;
+        digits /= 4;
+    }
+    Ok(image)
+}
+
+// Whether a start on an image gives one of two texts.
+fn gives(alloc: Global, image: Vec<u8>, before: &[u8], after: &[u8]) -> Result<bool, Fail> {
+    let (answer, _) = start_on(alloc, MemoryDisk::new(image, Vec::new(alloc)))?;
+    Ok(match answer {
+        Ok(text) => text.as_slice() == before || text.as_slice() == after,
+        Err(_) => false,
+    })
+}
+
+// Whether a start on each image that a crash may leave while an entry is written behind a journal gives the lines from
+// before: the file ends anywhere, and each byte is there or torn.
+fn entries_are_kept_out(alloc: Global, lines: &[&[u8]], line: &[u8]) -> Result<bool, Fail> {
+    let journal = journal_of(alloc, lines)?;
+    let before = text_of(alloc, lines)?;
+    let mut entry = [0, 0, 0, length(line)?].to_vec(alloc)?;
+    entry.extend_from_slice(line)?;
+    entry.push(0)?;
+    for (end, choices) in [1, 4, 16, 64, 256, 1_024, 4_096].into_iter().enumerate() {
+        let Some(part) = entry.get(..end) else {
+            break;
+        };
+        for choice in 0..choices {
+            if !gives(
+                alloc,
+                torn(alloc, &journal, part, choice)?,
+                &before,
+                &before,
+            )? {
+                return Ok(false);
+            }
+        }
+    }
+    Ok(true)
+}
+
+// Whether a start on each image that a crash may leave while the gate of an entry is opened gives the lines from before, or
+// those with the new one: the gate is the old byte, the new one, or torn.
+fn gates_open_at_once(alloc: Global, lines: &[&[u8]], line: &[u8]) -> Result<bool, Fail> {
+    let before = text_of(alloc, lines)?;
+    let mut after = text_of(alloc, lines)?;
+    after.extend_from_slice(line)?;
+    after.push(b'\n')?;
+    for gate in [0, 1, 10] {
+        let mut image = journal_of(alloc, lines)?;
+        image.pop();
+        image.extend_from_slice(&[gate, 0, 0, 0, length(line)?])?;
+        image.extend_from_slice(line)?;
+        image.push(0)?;
+        if !gives(alloc, image, &before, &after)? {
+            return Ok(false);
+        }
+    }
+    Ok(true)
+}
+
+#[test]
+fn each_image_of_a_put_stands_for_the_lines(rt: HostRuntime) -> Result<(), Fail> {
+    let alloc = rt.alloc();
+    let journals: [&[&[u8]]; 7] = [
+        &[],
+        &[b""],
+        &[b"a"],
+        &[b"", b""],
+        &[b"", b"a"],
+        &[b"a", b""],
+        &[b"a", b"a"],
+    ];
+    for lines in journals {
+        for line in [b"".as_slice(), b"a".as_slice()] {
+            assert!(rt;
+                entries_are_kept_out(alloc, lines, line)?,
+                "{line:?} behind {lines:?}"
+            );
+            assert!(rt;
+                gates_open_at_once(alloc, lines, line)?,
+                "{line:?} behind {lines:?}"
+            );
+        }
+    }
+    Ok(())
+}

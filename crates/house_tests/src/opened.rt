@@ -1,11 +1,12 @@
 //! Calls that a call file and a register open.
 
 use crate::case::{Case, RUN};
-use crate::inputs::FOUR_REPORT;
-use call_file::Key;
+use crate::inputs::{CALL_OF_24, FOUR_REPORT, INPUT_OF_24, REGISTER_OF_24, REPORT_OF_24};
+use call_file::{Key, OpenFault, open_lines};
 use house_base::Reason;
 use house_io::{PlainShelf, PlainSink, PlainSource};
 use house_top::{Bad, Status, is_storing, read_only};
+use std::alloc::Global;
 use std::test::Fail;
 
 const CALL: &[u8] = b"seats = 2\nclusters = 2\nreviews = 1\n";
@@ -35,6 +36,13 @@ const CASES: &[Case<'static>] = &[
         name: "a report behind two files",
         text: FOUR_REPORT,
         kept: &[("c", CALL), ("r", REGISTER)],
+        ..OPENED
+    },
+    Case {
+        name: "a call of 24",
+        input: INPUT_OF_24,
+        files: &[("c", CALL_OF_24), ("r", REGISTER_OF_24)],
+        text: REPORT_OF_24,
         ..OPENED
     },
     Case {
@@ -141,5 +149,56 @@ fn open_a_call_over_files_that_tell_all(rt: HostRuntime) -> Result<(), Fail> {
     let status = read_only(alloc, &words, &mut input, &mut output, &mut files);
     assert_eq!(rt; status, Status::Done);
     assert_eq!(rt; output.given(), FOUR_REPORT.as_bytes());
+    Ok(())
+}
+
+/// How many lines a call file and a register open a call with, or why one of them is refused.
+fn count_opened(alloc: Global, call: &[u8], register: &[u8]) -> Result<u64, OpenFault> {
+    Ok(open_lines(alloc, call, register)?.count())
+}
+
+/// With ample memory the opening lines are made, and each refusal is told.
+#[test]
+fn make_opening_lines(rt: HostRuntime) -> Result<(), Fail> {
+    let of_24: &[u8] = CALL_OF_24;
+    let register: &[u8] = REGISTER_OF_24;
+    let cases: [(&[u8], &[u8], Result<u64, OpenFault>); 12] = [
+        (of_24, register, Ok(51)),
+        (CALL, REGISTER, Ok(9)),
+        (CALL, b"name,cluster,conflicts\n", Ok(1)),
+        (b"seats =", b"", Err(OpenFault::BadToml)),
+        (b"version = 3", b"", Err(OpenFault::BadKey(Key::Version))),
+        (b"", b"", Err(OpenFault::BadKey(Key::Seats))),
+        (b"seats = 1", b"", Err(OpenFault::BadKey(Key::Clusters))),
+        (
+            b"seats = 1\nclusters = 2",
+            b"",
+            Err(OpenFault::BadKey(Key::Reviews)),
+        ),
+        (
+            b"seats = 1\nclusters = 2\nreviews = 1\npartition = \"a b\"",
+            b"",
+            Err(OpenFault::BadKey(Key::Partition)),
+        ),
+        (
+            b"seats = 1\nclusters = 2\nreviews = 1\nseal = \"AB\"",
+            b"",
+            Err(OpenFault::BadKey(Key::Seal)),
+        ),
+        (
+            b"seats = 1\nclusters = 2\nreviews = 1\ncolour = 1",
+            b"",
+            Err(OpenFault::BadKey(Key::Other)),
+        ),
+        (
+            CALL,
+            b"name,cluster,conflicts\nB,1,\n",
+            Err(OpenFault::BadRegister(2)),
+        ),
+    ];
+    for (call, register, due) in cases {
+        let opened = count_opened(rt.alloc(), call, register);
+        assert_eq!(rt; opened, due, "{call:?} and {register:?}");
+    }
     Ok(())
 }

@@ -429,7 +429,7 @@ show_bad_row() {
     else
         say "row $1 of $file is off the form of an audit: $row"
     fi
-    [ "$1" != 1 ] || say 'row 1 is {"format":"peer-house-audit","version":2}, or has the version 1'
+    [ "$1" != 1 ] || say 'the first row is {"format":"peer-house-audit","version":2}, or has the version 1'
 }
 
 # Which row of the audit $1 is the first that is not as its lines have it. Asked is `replay`, which stores nothing.

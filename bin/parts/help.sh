@@ -251,7 +251,7 @@ TEXT
 differs ROW, and the lines `kept ..` and `right ..`
 All rows of the file are of the form of an audit, and it is not that of its lines. ROW is the first row, from 1, that
 is not as the lines of the file have it: behind `kept` as it stands in the file, behind `right` as it stands in their
-audit. The header is row 1, and line L of the run is row L + 1.
+audit. The header is the first row, and line L of the run is row L + 1.
 TEXT
             ;;
         migrated) cat <<'TEXT'
